@@ -9,8 +9,9 @@ from shorter_proofs.laboratory import Laboratory, put
 from shorter_proofs.place import Citations, cleaned, placed
 from shorter_proofs.texts import LemmaFile, lemma_files
 
-# How much slower a check may become.
+# How much slower a check may become, and the processor seconds that are no matter.
 SLOWER = 1.1
+FEW = 6
 # As long as lemmas are taken into others, but no longer.
 ROUNDS = 3
 
@@ -100,7 +101,7 @@ class Crate:
         self.lay_out()
         laboratory.fill()
         status, now = laboratory.measured()
-        is_kept = not status and now <= seconds * SLOWER
+        is_kept = not status and now <= max(seconds * SLOWER, seconds + FEW)
         self.tell(f"{what}; {seconds:.1f} processor seconds before, {now:.1f} now{'' if is_kept else ': taken back'}")
         if is_kept:
             return now

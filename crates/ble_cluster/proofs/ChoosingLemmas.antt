@@ -1,5 +1,5 @@
 -- The choice of the next member.
-use Rattle.ble_cluster.proofs.Prelude.{◌≡◌, ◌≢◌, ℕ, suc, zero, ◌+◌, ◌<◌, ◌≤◌, ◌⊎◌, inl, inr, Bool, true, false, not, ◌||◌, ◌&&◌, eqb, List, [], ◌∷◌, Option, Some, None, filter, length, take, get_or, if◌then◌else◌, sym, refl, ap, subst, ◌∙◌, arith, range_with_len, ForSome, take_all, take_more, cases_lt, nat_tests, eqb_tells, Arch, has, LogicElement, AreTouched, gain_at, IsBest, IsFirst, LeadsOver, SharesNet, beats, is_candidate, may_join, next_member, shared_nets, taken_at, free_in}
+use Rattle.ble_cluster.proofs.Prelude.{◌≡◌, ◌≢◌, ℕ, suc, zero, ◌+◌, ◌<◌, ◌≤◌, ◌⊎◌, inl, inr, Bool, true, false, not, ◌||◌, ◌&&◌, eqb, List, [], ◌∷◌, Option, Some, None, filter, length, take, get_or, if◌then◌else◌, sym, refl, ap, subst, ◌∙◌, arith, range_with_len, ForSome, take_more, cases_lt, nat_tests, eqb_tells, Arch, has, LogicElement, AreTouched, gain_at, IsBest, IsFirst, LeadsOver, SharesNet, beats, is_candidate, may_join, next_member, shared_nets, taken_at, free_in}
 use Rattle.ble_cluster.proofs.Choice.{IsRising, first_most-is, first_most-none, has-filter, rising-filter, rising-range}
 use Rattle.ble_cluster.proofs.Outside.{has-append}
 
@@ -110,19 +110,6 @@ module _ (arch : Arch) (elements : List LogicElement) (taken : List Bool) (membe
       → preferred ≡ (beats gains (get_or numbers place 0) best && candidate (get_or numbers place 0)) → IsBestOf (IsAmongFirst numbers (place + 1)) (if preferred then Some (get_or numbers place 0) else best)
   best_step numbers place best true small within shares i p = best_more numbers place best small within shares i (grind (arith, p)) (grind (arith, p))
   best_step numbers place best false small within shares i p = best_still numbers place best small i (sym p)
-
-  -- all BLEs that share a net are touched
-  pub best_of_all : (numbers : List ℕ) (best : Option ℕ) → length gains ≡ length elements → AreTouched gains numbers → IsBestOf (IsAmongFirst numbers (length numbers)) best → IsBestOf (SharesNet elements gains) best
-  best_of_all numbers None count t i = λ other shares. i other (among numbers other count t shares)
-    where
-      among : (numbers : List ℕ) (other : ℕ) → length gains ≡ length elements → AreTouched gains numbers → SharesNet elements gains other → IsAmongFirst numbers (length numbers) other
-      among numbers other count t s = rw (take_all (length numbers) numbers (omega arith)) (t.touches other (omega (arith, s.small, count)) ∙ grind (arith, nat_tests, s.shares))
-  best_of_all numbers (Some best) count t i = record {
-    small = i.small;
-    candidate = i.candidate;
-    touched = i.touched;
-    leads = λ other shares is. i.leads other (rw (take_all (length numbers) numbers (omega arith)) (t.touches other (omega (arith, shares.small, count)) ∙ grind (arith, nat_tests, shares.shares))) is;
-  }
 
 -- the number at an index of a list is in the list
 has_at : (numbers : List ℕ) (place : ℕ) → place < length numbers → has numbers (get_or numbers place 0) ≡ true

@@ -1,5 +1,5 @@
 -- The circuit of each text is lawful, whoever reads it.
-use Rattle.blif.proofs.Prelude.{◌≡◌, ◌≤◌, ℕ, Bool, true, false, nat_lt, if◌then◌else◌, List, [], ◌∷◌, ◌++◌, Option, None, Result, Ok, Err, length, refl, sym, ap, subst, append_assoc, arith, append-nil, option_map_or, rises_given, RisesFrom, JoinedLine, lines_of, LineFault, MAX_TEXT, faults_in, IsLawfulFor, circuit_of, circuit_of_lines, line_faults, names_in, with_names, Sights, kind_of, sights_of, Circuit, MAX_NETS, BlifFault, OverLimit, Keyword}
+use Rattle.blif.proofs.Prelude.{◌≡◌, ◌≤◌, ℕ, Bool, true, false, nat_lt, if◌then◌else◌, List, [], ◌∷◌, ◌++◌, Option, None, Result, Ok, Err, length, refl, sym, subst, append_assoc, arith, append-nil, option_map_or, rises_given, RisesFrom, JoinedLine, lines_of, LineFault, MAX_TEXT, faults_in, IsLawfulFor, circuit_of, circuit_of_lines, line_faults, names_in, with_names, Sights, kind_of, sights_of, Circuit, MAX_NETS, BlifFault, OverLimit, Keyword}
 use Rattle.blif.proofs.Answering.{circuit_of_read}
 use Rattle.blif.proofs.FaultOrder.{least_is_first}
 use Rattle.blif.proofs.Faultless.{nil_from_map, nil_left, nil_right}

@@ -41,20 +41,13 @@ impl<'t> Driven<'t> {
         ensures { IfOk result (λ driven.
             driven ≡ record { nets = nets.entry; clocks = clocks.entry; drivers = drivers.entry }) }
     {
-        match marks(alloc, &nets, &clocks, &drivers) {
-            Ok(is_driven) => Ok(Driven {
-                nets,
-                clocks,
-                drivers,
-                is_driven,
-            }),
-            Err(error) => {
-                drop(nets);
-                drop(clocks);
-                drop(drivers);
-                Err(error)
-            }
-        }
+        let is_driven = marks(alloc, &nets, &clocks, &drivers)?;
+        Ok(Driven {
+            nets,
+            clocks,
+            drivers,
+            is_driven,
+        })
     }
 
     /// The nets, in the order of their numbers.

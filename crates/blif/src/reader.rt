@@ -62,29 +62,15 @@ fn declared_inputs<'t>(alloc: Global, lines: &Lines<'t>) -> Result<NameSet<'t>, 
     ensures { IfOk result (λ names. names ≡ declared_in lines.now) }
 {
     let mut declared = NameSet::new(alloc);
-    match declare_inputs(&mut declared, lines) {
-        Ok(()) => Ok(declared),
-        Err(error) => {
-            drop(declared);
-            Err(error)
-        }
-    }
-}
-
-/// Adds the inputs that `.inputs` lines declare before the end.
-fn declare_inputs<'t>(declared: &mut NameSet<'t>, lines: &Lines<'t>) -> Result<(), AllocError>
-    requires { declared.old ≡ [] }
-    ensures { IfOk result (λ _. declared.new ≡ declared_in lines.now) }
-{
     for place in 0..lines.len() {
         let line = lines.line(place);
         let keyword = keyword_of(&line);
         if is_end(keyword) {
-            break;
+            return Ok(declared);
         }
         declared.add_all(inputs_in(keyword, &line))?;
     }
-    Ok(())
+    Ok(declared)
 }
 
 /// The state after all lines, with the number of each net that they name appended to `numbers`; or
@@ -104,13 +90,8 @@ fn check_lines<'t>(
         (Fails (first_fault (line_faults lut_size declared.entry [] lines.now))) }
 {
     let mut checker = Checker::new(alloc, declared);
-    match check_each(alloc, &mut checker, lines, lut_size, numbers) {
-        Ok(()) => Ok(checker),
-        Err(error) => {
-            drop(checker);
-            Err(error)
-        }
-    }
+    check_each(alloc, &mut checker, lines, lut_size, numbers)?;
+    Ok(checker)
 }
 
 /// Checks the lines one after another, up to the first fault.
@@ -188,9 +169,7 @@ fn build_driven<'t>(
         (Fails (first_fault (flat_map
         (undriven_faults (driven.entry.clocks ++ driven.entry.drivers)) lines.now))) }
 {
-    let built = build_over(alloc, lines, &driven, numbers);
-    drop(driven);
-    built
+    build_over(alloc, lines, &driven, numbers)
 }
 
 /// Builds the circuit over borrowed nets: the circuit, or the first net that is read and not
@@ -224,13 +203,8 @@ fn assemble<'t>(
     ensures { IfOk result (λ circuit.
         circuit ≡ circuit_with driven.now.nets driven.now.clocks lines.now parts) }
 {
-    match name_parts(alloc, lines, driven, &mut parts) {
-        Ok((model, nets)) => Ok(parts.into_circuit(model, nets)),
-        Err(error) => {
-            drop(parts);
-            Err(error)
-        }
-    }
+    let (model, nets) = name_parts(alloc, lines, driven, &mut parts)?;
+    Ok(parts.into_circuit(model, nets))
 }
 
 /// Adds the clocks to these parts. Returns the model's name and the names of the nets.
@@ -249,13 +223,8 @@ fn name_parts<'t>(
 {
     parts.add_clocks(driven)?;
     let model = model_of(alloc, lines)?;
-    match net_names(alloc, driven.nets()) {
-        Ok(nets) => Ok((model, nets)),
-        Err(error) => {
-            drop(model);
-            Err(error)
-        }
-    }
+    let nets = net_names(alloc, driven.nets())?;
+    Ok((model, nets))
 }
 
 /// The parts of the circuit, or the first net that is read and not driven.
@@ -273,13 +242,8 @@ fn parts_of<'t>(
         lines.now))) }
 {
     let mut parts = CircuitParts::new(alloc);
-    match add_lines(alloc, &mut parts, lines, driven, numbers) {
-        Ok(()) => Ok(parts),
-        Err(error) => {
-            drop(parts);
-            Err(error)
-        }
-    }
+    add_lines(alloc, &mut parts, lines, driven, numbers)?;
+    Ok(parts)
 }
 
 /// Adds the parts of the lines one after another, up to the first net that is read and not driven.

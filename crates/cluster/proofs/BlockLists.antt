@@ -1,5 +1,5 @@
 -- The blocks of a packed circuit, kind by kind, and the nets between them.
-use Rattle.cluster.proofs.Prelude.{◌≡◌, refl, sym, ap, subst, ◌∙◌, ℕ, suc, zero, ◌+◌, ◌<◌, Bool, true, false, not, ◌&&◌, cond, eqb, List, [], ◌∷◌, ◌++◌, All, None, length, get_or, map, filter, slice_index, arith, length-append, flat_map, range_with_len, enumerate_from, append_assoc, length-map, get_or-map, flat_map-append, All-head, All-tail, All-map, All-weaker, filter-append, fill_by_all, length-enumerate_from, get_or-enumerate_from, length-range_with_len, get_or-range_with_len, get_or-map-range_with_len, Block, InputPad, OutputPad, Cluster, NetUses, has, distinct_nets, NetsAmong, LogicElement, bles_of, element_at, elements_at, outputs_of, outside_inputs, clocks_of, PackedCircuit, BlockNet, blocks_of, block_net, block_nets, is_global, leaves_block, nets_from, readers_of, reads_net, IsElementWithin, clusters_with, members_of, nets_read, pads_with, readers_by_net, cluster_nets, controls_of, driven_nets, input_nets, leaves_by, net_by, other_readers, IsPacked, has-distinct, has-with_nets}
+use Rattle.cluster.proofs.Prelude.{◌≡◌, refl, sym, ap, subst, ◌∙◌, ℕ, suc, zero, ◌+◌, ◌<◌, Bool, true, false, not, ◌&&◌, cond, eqb, List, [], ◌∷◌, ◌++◌, All, None, length, get_or, map, filter, slice_index, arith, length-append, flat_map, range_with_len, enumerate_from, append_assoc, length-map, get_or-map, flat_map-append, All-head, All-tail, All-map, All-weaker, filter-append, fill_by_all, length-enumerate_from, get_or-enumerate_from, length-range_with_len, get_or-range_with_len, get_or-map-range_with_len, Block, InputPad, OutputPad, Cluster, NetUses, has, distinct_nets, NetsAmong, LogicElement, bles_of, element_at, elements_at, outputs_of, PackedCircuit, BlockNet, blocks_of, block_net, block_nets, is_global, leaves_block, nets_from, readers_of, reads_net, IsElementWithin, clusters_with, members_of, nets_read, pads_with, readers_by_net, cluster_nets, controls_of, driven_nets, input_nets, leaves_by, net_by, other_readers, IsPacked, has-distinct, has-with_nets}
 use Rattle.cluster.proofs.ReaderLists.{flat_map-range_more}
 use Rattle.cluster.proofs.FewBlocks.{elements_within}
 
@@ -46,18 +46,11 @@ by_kind {A} g packed =
     let second = map OutputPad outputs in
     let third = map Cluster (range_with_len 0 count) in
     let pads : length (first ++ second) ≡ length inputs + length outputs = omega (arith, length-append first second, length-map inputs InputPad, length-map outputs OutputPad) in
-    let in_parts : enumerate_from 0 (blocks_of packed) ≡ (enumerate_from 0 first ++ enumerate_from (length inputs) second) ++ enumerate_from (length inputs + length outputs) third =
-    enumerate_from-append 0 (first ++ second) third
-    ∙ ap (λ (n : ℕ). enumerate_from 0 (first ++ second) ++ enumerate_from n third) (omega (arith, pads))
-    ∙ ap (λ (front : List (ℕ × Block)). front ++ enumerate_from (length inputs + length outputs) third) (enumerate_from-append 0 first second ∙ ap (λ (n : ℕ). enumerate_from 0 first ++ enumerate_from n second) (omega (arith, length-map inputs InputPad))) in
+    let in_parts : enumerate_from 0 (blocks_of packed) ≡ (enumerate_from 0 first ++ enumerate_from (length inputs) second) ++ enumerate_from (length inputs + length outputs) third = grind (arith, enumerate_from-append, length-map) in
     let first_is = by_place g 0 (length inputs) first (λ k. (k, InputPad (slice_index inputs k))) (length-map inputs InputPad) (λ k lt. ap (λ (n : ℕ). let b : ℕ × Block = (n, get_or first k (InputPad 0)) in b) (omega arith) ∙ ap (λ (block : Block). let b : ℕ × Block = (k, block) in b) (get_or-map InputPad inputs k 0 (InputPad 0) lt)) in
     let second_is = by_place g (length inputs) (length outputs) second (λ k. (length inputs + k, OutputPad (slice_index outputs k))) (length-map outputs OutputPad) (λ k lt. ap (λ (block : Block). let b : ℕ × Block = (length inputs + k, block) in b) (get_or-map OutputPad outputs k 0 (InputPad 0) lt)) in
     let third_is = by_place g (length inputs + length outputs) count third (λ k. (length inputs + length outputs + k, Cluster k)) (length-map (range_with_len 0 count) Cluster ∙ length-range_with_len 0 count) (λ k lt. ap (λ (block : Block). let b : ℕ × Block = (length inputs + length outputs + k, block) in b) (get_or-map Cluster (range_with_len 0 count) k 0 (InputPad 0) (omega (arith, length-range_with_len 0 count)) ∙ ap Cluster (get_or-range_with_len 0 count k 0 lt ∙ omega arith))) in
-    ap (flat_map g) in_parts
-    ∙ flat_map-append g (enumerate_from 0 first ++ enumerate_from (length inputs) second) (enumerate_from (length inputs + length outputs) third)
-    ∙ ap (λ (front : List A). front ++ flat_map g (enumerate_from (length inputs + length outputs) third)) (flat_map-append g (enumerate_from 0 first) (enumerate_from (length inputs) second))
-    ∙ append_assoc (flat_map g (enumerate_from 0 first)) (flat_map g (enumerate_from (length inputs) second)) (flat_map g (enumerate_from (length inputs + length outputs) third))
-    ∙ cc (first_is, second_is, third_is)
+    grind (arith, flat_map-append, append_assoc)
 
 -- the numbers of the blocks that pass
 numbers_passing : (test : ℕ × Block → Bool) (blocks : List (ℕ × Block)) → map (λ (block : ℕ × Block). block.0) (filter test blocks) ≡ flat_map (λ (block : ℕ × Block). cond (test block) (block.0 ∷ []) []) blocks
@@ -89,14 +82,8 @@ readers_gathered packed driver net =
     let no_inputs = flat_map_none (λ k. g (k, InputPad (slice_index circuit.inputs k))) (length circuit.inputs) (λ k. ap (λ (t : Bool). cond t (k ∷ []) []) (and_false (other k))) in
     let outputs = flat_map_same (λ k. g (length circuit.inputs + k, OutputPad (slice_index circuit.outputs k))) (λ k. filter other (pads k)) (length circuit.outputs) (λ k lt. both_tests other (other (length circuit.inputs + k)) (eqb (slice_index circuit.outputs k) net) (length circuit.inputs + k) refl) in
     let clusters = flat_map_same (λ k. g (length circuit.inputs + length circuit.outputs + k, Cluster k)) (λ k. filter other (read k)) (length packed.clusters) (λ k lt.
-    ap (λ (t : Bool). cond (other (length circuit.inputs + length circuit.outputs + k) && t) ((length circuit.inputs + length circuit.outputs + k) ∷ []) []) (sym (has-with_nets (outside_inputs (members_of elements packed.clusters k)) (clocks_of (members_of elements packed.clusters k)) net))
-    ∙ both_tests other (other (length circuit.inputs + length circuit.outputs + k)) (has (nets_read (members_of elements packed.clusters k)) net) (length circuit.inputs + length circuit.outputs + k) refl) in
-    numbers_passing test (enumerate_from 0 (blocks_of packed))
-    ∙ by_kind g packed
-    ∙ ap (λ (front : List ℕ). front ++ (flat_map (λ k. g (length circuit.inputs + k, OutputPad (slice_index circuit.outputs k))) (range_with_len 0 (length circuit.outputs)) ++ flat_map (λ k. g (length circuit.inputs + length circuit.outputs + k, Cluster k)) (range_with_len 0 (length packed.clusters)))) no_inputs
-    ∙ ap (λ (front : List ℕ). front ++ flat_map (λ k. g (length circuit.inputs + length circuit.outputs + k, Cluster k)) (range_with_len 0 (length packed.clusters))) (outputs ∙ sym (filter-flat_map other pads (range_with_len 0 (length circuit.outputs))))
-    ∙ ap (λ (end : List ℕ). filter other (flat_map pads (range_with_len 0 (length circuit.outputs))) ++ end) (clusters ∙ sym (filter-flat_map other read (range_with_len 0 (length packed.clusters))))
-    ∙ sym (filter-append other (flat_map pads (range_with_len 0 (length circuit.outputs))) (flat_map read (range_with_len 0 (length packed.clusters))))
+    grind (arith, has-with_nets)) in
+    grind (arith, numbers_passing, by_kind, filter-flat_map, filter-append)
 
 -- facts about the uses of the nets of a packed circuit
 pub record AreUsesOf (packed : PackedCircuit) (uses : NetUses) : Type 0 where
@@ -151,7 +138,4 @@ nets_by_uses packed uses lawful are =
     let inputs = flat_map_same (λ k. g (k, InputPad (slice_index circuit.inputs k))) pads (length circuit.inputs) (λ k lt. ap (λ (net : BlockNet). net ∷ []) (sym (net_by_uses packed uses k (slice_index circuit.inputs k) are (lawful.circuit.inputs k 0 lt)))) in
     let no_outputs = flat_map_none (λ k. g (length circuit.inputs + k, OutputPad (slice_index circuit.outputs k))) (length circuit.outputs) (λ k. refl) in
     let clusters = flat_map_same (λ k. g (length circuit.inputs + length circuit.outputs + k, Cluster k)) driven (length packed.clusters) (λ k lt. driven_by packed uses (length circuit.inputs + length circuit.outputs + k) (outputs_of (members_of elements packed.clusters k)) are (outputs_within elements (get_or packed.clusters k []) (length circuit.nets) (elements_within circuit lawful.circuit) (lawful.members k [] lt))) in
-    sym (by_kind g packed
-    ∙ ap (λ (front : List BlockNet). front ++ (flat_map (λ k. g (length circuit.inputs + k, OutputPad (slice_index circuit.outputs k))) (range_with_len 0 (length circuit.outputs)) ++ flat_map (λ k. g (length circuit.inputs + length circuit.outputs + k, Cluster k)) (range_with_len 0 (length packed.clusters)))) inputs
-    ∙ ap (λ (front : List BlockNet). input_nets circuit uses (length circuit.inputs) ++ (front ++ flat_map (λ k. g (length circuit.inputs + length circuit.outputs + k, Cluster k)) (range_with_len 0 (length packed.clusters)))) no_outputs
-    ∙ ap (λ (end : List BlockNet). input_nets circuit uses (length circuit.inputs) ++ end) clusters)
+    grind (arith, by_kind)

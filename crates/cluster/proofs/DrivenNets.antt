@@ -1,5 +1,5 @@
 -- The nets that blocks drive, one after another.
-use Rattle.cluster.proofs.Prelude.{◌≡◌, ap, ◌∙◌, ℕ, ◌+◌, ◌<◌, Bool, true, false, cond, List, [], ◌∷◌, ◌++◌, Some, None, length, take, get_or, map, filter, slice_get, slice_index, arith, append_assoc, append-nil, map_more, map-append, filter-append, get_or_from_slice_get, Circuit, NetUses, has, LogicElement, element_at, elements_at, outputs_of, BlockNet, other_readers, leaves_by, net_by, input_nets, driven_nets, cluster_nets}
+use Rattle.cluster.proofs.Prelude.{◌≡◌, ap, ◌∙◌, ℕ, ◌+◌, ◌<◌, Bool, true, false, cond, List, [], ◌∷◌, ◌++◌, Some, None, length, take, get_or, map, slice_get, slice_index, arith, append_assoc, append-nil, map_more, map-append, filter-append, get_or_from_slice_get, Circuit, NetUses, has, LogicElement, element_at, elements_at, BlockNet, other_readers, leaves_by, net_by, input_nets, driven_nets, cluster_nets}
 use Rattle.cluster.proofs.ReaderLists.{flat_map-range_more}
 
 -- the net that is built from its uses
@@ -21,12 +21,7 @@ driven_more uses driver elements members i element b h read is =
     let at : element_at elements (get_or members i 0) ≡ element = get_or_from_slice_get elements (get_or members i 0) element none read in
     let front = elements_at elements (take i members) in
     let more : elements_at elements (take (i + 1) members) ≡ front ++ element ∷ [] = map_more (element_at elements) members i 0 h ∙ ap (λ (last : LogicElement). front ++ last ∷ []) at in
-    let outputs : outputs_of (front ++ element ∷ []) ≡ outputs_of front ++ element.output ∷ [] = map-append (λ (e : LogicElement). e.output) front (element ∷ []) in
-    ap (driven_nets uses driver) more
-    ∙ ap (λ (outputs : List ℕ). map (net_by uses driver) (filter (leaves_by uses driver) outputs)) outputs
-    ∙ ap (map (net_by uses driver)) (filter-append (leaves_by uses driver) (outputs_of front) (element.output ∷ []))
-    ∙ map-append (net_by uses driver) (filter (leaves_by uses driver) (outputs_of front)) (filter (leaves_by uses driver) (element.output ∷ []))
-    ∙ ap (λ (t : Bool). driven_nets uses driver front ++ map (net_by uses driver) (cond t (element.output ∷ []) [])) is
+    grind (arith, map-append, filter-append)
 
 -- a net that leaves the block
 pub driven_leaves : (uses : NetUses) (driver : ℕ) (elements : List LogicElement) (members : List ℕ) (i : ℕ) (element : LogicElement) (start old new : List BlockNet) → i < length members → slice_get elements (get_or members i 0) ≡ Some element → leaves_by uses driver element.output ≡ true → old ≡ start ++ driven_nets uses driver (elements_at elements (take i members)) → new ≡ old ++ net_by uses driver element.output ∷ [] → new ≡ start ++ driven_nets uses driver (elements_at elements (take (i + 1) members))

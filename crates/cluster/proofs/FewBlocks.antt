@@ -1,5 +1,5 @@
 -- The number of blocks of a packed circuit is small, and its BLEs have nets of the circuit.
-use Rattle.cluster.proofs.Prelude.{◌≡◌, ◌≢◌, ℕ, suc, zero, ◌+◌, ◌^◌, ◌<◌, ◌≤◌, Bool, true, false, List, [], ◌∷◌, ◌++◌, Option, None, Some, All, filter, length, map, drop, if◌then◌else◌, refl, ap, arith, length-append, eqb, take_while, prefix_len, ForSome, Decides-eqb, IsDistinct-from_AllPairs, length-le_from_distinct_below, All-nil, All-cons, All-head, All-tail, All-append, All-filter, All-map, All-drop, All-take, All-weaker, Circuit, Latch, LookupTable, IsCircuit, IsLatchWithin, IsTableWithin, drivers_of, Arch, with_nets, with_net, LogicElement, bles_of, element_of_latch, element_of_table, in_line_order, latch_after, stands_alone, is_read_once, is_above, clusters_after, with_cluster, PackedCircuit, packed_of, IsElementWithin, IsPacked, found}
+use Rattle.cluster.proofs.Prelude.{◌≢◌, ℕ, suc, zero, ◌+◌, ◌^◌, ◌<◌, ◌≤◌, Bool, true, false, List, [], ◌∷◌, Option, None, Some, All, filter, length, map, drop, if◌then◌else◌, refl, arith, length-append, eqb, take_while, prefix_len, ForSome, Decides-eqb, IsDistinct-from_AllPairs, length-le_from_distinct_below, All-nil, All-cons, All-head, All-tail, All-append, All-filter, All-map, All-drop, All-take, All-weaker, Circuit, Latch, LookupTable, IsCircuit, IsLatchWithin, IsTableWithin, drivers_of, Arch, with_nets, with_net, LogicElement, bles_of, element_of_latch, element_of_table, in_line_order, latch_after, stands_alone, is_read_once, is_above, clusters_after, with_cluster, PackedCircuit, packed_of, IsElementWithin, IsPacked, found}
 use Rattle.std.specs.List.{AllPairs, find}
 use Rattle.cluster.proofs.Members.{within}
 
@@ -24,10 +24,7 @@ few_blocks packed lawful =
     let c = lawful.circuit in
     let drivers = few_distinct (drivers_of circuit) (length circuit.nets) c.driven_once (within circuit c) in
     let outputs = few_distinct circuit.outputs (length circuit.nets) c.shown_once c.outputs in
-    let inputs = length-append circuit.inputs (map (λ (table : LookupTable). table.output) circuit.tables ++ map (λ (latch : Latch). latch.output) circuit.latches) in
-    let clusters_are : length packed.clusters ≡ length (clusters_after packed.arch (bles_of circuit) (length (bles_of circuit))) = ap (λ (p : PackedCircuit). length p.clusters) lawful.exact in
-    let clusters = few_clusters packed.arch (bles_of circuit) (length (bles_of circuit)) in
-    omega (arith, drivers, outputs, inputs, clusters_are, clusters, c.few, lawful.few_elements)
+    grind (arith, length-append, few_clusters)
 
 -- the number of pads of a circuit fits into 32 bits
 pub few_pads : (circuit : Circuit) → IsCircuit circuit → length circuit.inputs + length circuit.outputs < 2 ^ 32

@@ -73,20 +73,7 @@ ends circuit arch growth clusters made s none =
     let elements = bles_of circuit in
     let left : free_of elements (clusters_after arch elements (suc made)) ≡ [] = sym (s.free ∙ ap (free_of elements) s.exact) ∙ none in
     let l = last_step arch elements made s.going s.begun left in
-    let next : suc made ≡ made + 1 = omega arith in
-    record {
-      way = record {
-        fit = s.fit;
-        elements = s.elements;
-        free = s.free;
-        exact = s.exact ∙ ap (λ ns. clusters_after arch elements (steps_reached ns made)) (sym none);
-        count = s.going.clusters;
-        taken = s.going.taken;
-        begun = s.begun;
-      };
-      packed = packed_is circuit arch clusters (s.exact ∙ ap (clusters_after arch elements) next ∙ l.clusters);
-      steps = l.steps ∙ sym (steps_are circuit arch);
-    }
+    grind (arith, packed_is)
 
 -- the packed circuit is lawful
 pub ends_lawful : (circuit : Circuit) (arch : Arch) (clusters : List (List ℕ)) → IsCircuit circuit → IsArch arch → unfit_of circuit arch ≡ None → packed_of circuit arch ≡ record { circuit = circuit; arch = arch; clusters = clusters } → IsPacked (record { circuit = circuit; arch = arch; clusters = clusters })
@@ -102,15 +89,7 @@ begins circuit arch growth clusters fit same free none =
     let elements = bles_of circuit in
     let g = going_first arch elements in
     let all : growth.free ≡ free_of elements [] = free ∙ free_same (range_with_len 0 (length elements)) in
-    record {
-      fit = fit;
-      elements = same;
-      free = all ∙ ap (free_of elements) (sym none);
-      exact = none ∙ begins_exact arch elements growth.free all;
-      count = g.clusters;
-      taken = g.taken;
-      begun = λ h. refl;
-    }
+    grind (arith, begins_exact)
 
 -- all BLEs fit alone
 pub fit_among : (circuit : Circuit) (arch : Arch) (elements : List LogicElement) → unfit_of circuit arch ≡ None → elements ≡ bles_of circuit → unfit_among arch elements ≡ None

@@ -109,9 +109,7 @@ module _ (packed : PackedCircuit) (lawful : IsPacked packed) where
       let inputs = map (key_of packed) (map InputPad packed.circuit.inputs) in
       let outputs = map (key_of packed) (map OutputPad packed.circuit.outputs) in
       let clusters = map (key_of packed) (map Cluster (range_with_len 0 (length packed.clusters))) in
-      let parts : keys_of packed ≡ (inputs ++ outputs) ++ clusters =
-      map-append (key_of packed) (map InputPad packed.circuit.inputs ++ map OutputPad packed.circuit.outputs) (map Cluster (range_with_len 0 (length packed.clusters)))
-      ∙ ap (λ front. front ++ clusters) (map-append (key_of packed) (map InputPad packed.circuit.inputs) (map OutputPad packed.circuit.outputs)) in
+      let parts : keys_of packed ≡ (inputs ++ outputs) ++ clusters = grind (arith, map-append) in
       let of_inputs = of_kind kind.InputPad InputPad packed.circuit.inputs (λ net. refl) in
       let of_outputs = of_kind kind.OutputPad OutputPad packed.circuit.outputs (λ net. refl) in
       let of_clusters = of_kind kind.Cluster Cluster (range_with_len 0 (length packed.clusters)) (λ net. refl) in
@@ -129,10 +127,7 @@ module _ (packed : PackedCircuit) (lawful : IsPacked packed) where
   IsThere (Cluster cluster) = cluster < length packed.clusters
 
   blocks_there : All IsThere (blocks_of packed)
-  blocks_there =
-      All-append IsThere (map InputPad packed.circuit.inputs ++ map OutputPad packed.circuit.outputs) (map Cluster (range_with_len 0 (length packed.clusters)))
-      (All-append IsThere (map InputPad packed.circuit.inputs) (map OutputPad packed.circuit.outputs) (All-map IsThere InputPad packed.circuit.inputs lawful.circuit.inputs) (All-map IsThere OutputPad packed.circuit.outputs lawful.circuit.outputs))
-      (All-map IsThere Cluster (range_with_len 0 (length packed.clusters)) (ranged packed.arch (bles_of packed.circuit) 0 (length packed.clusters) (length packed.clusters) (omega arith)))
+  blocks_there = grind (arith, All-append IsThere (map InputPad packed.circuit.inputs ++ map OutputPad packed.circuit.outputs) (map Cluster (range_with_len 0 (length packed.clusters))) (All-append IsThere (map InputPad packed.circuit.inputs) (map OutputPad packed.circuit.outputs) (All-map IsThere InputPad packed.circuit.inputs lawful.circuit.inputs) (All-map IsThere OutputPad packed.circuit.outputs lawful.circuit.outputs)) (All-map IsThere Cluster (range_with_len 0 (length packed.clusters)) (ranged packed.arch (bles_of packed.circuit) 0 (length packed.clusters) (length packed.clusters) (omega arith))))
 
   pub block_there : (number : ℕ) (block : Block) → slice_get (blocks_of packed) number ≡ Some block → IsThere block
   block_there number block is = subst IsThere (get_or_from_slice_get (blocks_of packed) number block block is) (blocks_there number block (slice_get_within (blocks_of packed) number block is))

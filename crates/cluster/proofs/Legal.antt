@@ -32,9 +32,7 @@ module _ (arch : Arch) (elements : List LogicElement) (P : ℕ → Type 0) (free
 
   legal_grown : (seed : List ℕ) (additions : ℕ) → IsLegal arch elements P seed → IsLegal arch elements P (members_after arch elements free seed additions)
   legal_grown seed zero legal = legal
-  legal_grown seed (suc additions) legal =
-      let members = members_after arch elements free seed additions in
-      added members (legal_grown seed additions legal) (next_member arch elements free members) refl
+  legal_grown seed (suc additions) legal = grind (arith, added, legal_grown seed additions legal)
 
   -- the cluster made of free BLEs is legal, if each fits alone
   pub cluster_legal : unfit_among arch elements ≡ None → All (λ number. number < length elements) free → IsLegal arch elements P (cluster_of arch elements free)

@@ -1,6 +1,6 @@
 -- The invariant of every packing: clusters have members, these are BLEs, and the number of BLEs is
 -- small.
-use Rattle.cluster.proofs.Prelude.{◌≡◌, ℕ, suc, zero, ◌+◌, ◌<◌, ◌≤◌, List, [], ◌∷◌, ◌++◌, All, filter, length, map, drop, sym, refl, ◌∙◌, arith, None, length-append, ap, option_to_list, append-nil, length-map, take-append-drop, range_with_len, take_while, prefix_len, Decides-eqb, length-filter, count_by-le-length, IsDistinct-from_AllPairs, length-le_from_distinct_below, All-nil, All-cons, All-tail, All-append, All-filter, All-map, Arch, IsArch, Circuit, Latch, LookupTable, IsCircuit, drivers_of, LogicElement, bles_of, element_of_latch, element_of_table, in_line_order, latch_after, stands_alone, is_above, cluster_of, clusters_after, first_most, free_of, members_after, input_count_at, may_join, seed_of, shared_nets, unfit_of, with_cluster, packed_of, found, leading_lawful}
+use Rattle.cluster.proofs.Prelude.{◌≡◌, ℕ, suc, zero, ◌+◌, ◌<◌, ◌≤◌, List, [], ◌∷◌, ◌++◌, All, filter, length, map, drop, sym, ◌∙◌, arith, None, length-append, ap, option_to_list, append-nil, length-map, take-append-drop, range_with_len, take_while, prefix_len, Decides-eqb, length-filter, count_by-le-length, IsDistinct-from_AllPairs, length-le_from_distinct_below, All-nil, All-cons, All-tail, All-append, All-filter, All-map, Arch, IsArch, Circuit, Latch, LookupTable, IsCircuit, drivers_of, LogicElement, bles_of, element_of_latch, element_of_table, in_line_order, latch_after, stands_alone, is_above, cluster_of, clusters_after, first_most, free_of, members_after, input_count_at, seed_of, unfit_of, with_cluster, packed_of, found, leading_lawful}
 use Rattle.cluster.specs.Packing.{IsPacked}
 
 with_lawful : (P : ℕ → Type 0) (score : ℕ → ℕ) (members numbers : List ℕ) → All P members → All P numbers → All P (members ++ option_to_list (first_most score numbers))
@@ -14,10 +14,7 @@ module _ (arch : Arch) (elements : List LogicElement) where
 
   grown_lawful : (free seed : List ℕ) (additions : ℕ) → All IsElement free → All IsElement seed → All IsElement (members_after arch elements free seed additions)
   grown_lawful free seed zero f s = s
-  grown_lawful free seed (suc additions) f s =
-      let g = grown_lawful free seed additions f s in
-      let members = members_after arch elements free seed additions in
-      with_lawful IsElement (shared_nets elements members) members (filter (may_join arch elements members) free) g (All-filter (may_join arch elements members) IsElement free f)
+  grown_lawful free seed (suc additions) f s = search (with_lawful, All-filter, grown_lawful free seed additions f s, arith)
 
   cluster_lawful : (free : List ℕ) → All IsElement free → All IsElement (cluster_of arch elements free)
   unfolding cluster_of
@@ -83,9 +80,7 @@ module _ (circuit : Circuit) where
       let kept = filter (stands_alone circuit) circuit.latches in
       let distinct = IsDistinct-from_AllPairs Decides-eqb (drivers_of circuit) c.driven_once in
       let few = length-le_from_distinct_below (drivers_of circuit) (length circuit.nets) distinct (found (λ net. net < length circuit.nets) (drivers_of circuit) (within c)) in
-      let sums = length-append circuit.inputs (map (λ table. table.output) circuit.tables ++ map (λ latch. latch.output) circuit.latches) in
-      let more = length-append (map (λ table. table.output) circuit.tables) (map (λ latch. latch.output) circuit.latches) in
-      omega (arith, in_order_few circuit.tables kept, kept_few circuit.latches, few, c.few, sums, more, length-map circuit.tables (λ table. table.output), length-map circuit.latches (λ latch. latch.output))
+      grind (arith, length-append, in_order_few, kept_few, length-map)
 
   pub few_bles : IsCircuit circuit → length (bles_of circuit) ≤ 8192
   few_bles c = omega (arith, few_driven c)
@@ -93,12 +88,4 @@ module _ (circuit : Circuit) where
 -- the packing of a lawful circuit satisfies the invariant
 pub packed_lawful : (circuit : Circuit) (arch : Arch) → IsCircuit circuit → IsArch arch → unfit_of circuit arch ≡ None → IsPacked (packed_of circuit arch)
 unfolding packed_of
-packed_lawful circuit arch c a fit = record {
-  circuit = c;
-  arch = a;
-  fit = fit;
-  members = all_members arch (bles_of circuit) (length (bles_of circuit));
-  seeds = all_seeded arch (bles_of circuit) (length (bles_of circuit));
-  few_elements = few_bles circuit c;
-  exact = refl;
-}
+packed_lawful circuit arch c a fit = grind (arith, all_members, all_seeded, few_bles)

@@ -24,9 +24,7 @@ outputs_more elements members i count start old new element h read before after 
     let count_is : old.count ≡ count = ap (λ (set : NetsAmong). set.count) before in
     let nets_are : old.nets ≡ with_nets start (flat_map f (elements_at elements (take i members))) = ap (λ (set : NetsAmong). set.nets) before ∙ ap (with_nets start) (sym (outputs_flat (elements_at elements (take i members)))) in
     let more = gathered_more f elements members i start element h read ∙ ap (with_nets start) (outputs_flat (elements_at elements (take (i + 1) members))) in
-    after ∙ ap (λ (nets : List ℕ). let set : NetsAmong = record { count = old.count; nets = with_net nets element.output } in set) nets_are
-    ∙ ap (λ (nets : List ℕ). let set : NetsAmong = record { count = old.count; nets = nets } in set) more
-    ∙ ap (λ (number : ℕ). let set : NetsAmong = record { count = number; nets = with_nets start (outputs_of (elements_at elements (take (i + 1) members))) } in set) count_is
+    grind arith
 
 -- the nets that one more member reads, without known nets
 pub inputs_more : (elements : List LogicElement) (known members : List ℕ) (i count : ℕ) (start : List ℕ) (old new : NetsAmong) (element : LogicElement) → i < length members → slice_get elements (get_or members i 0) ≡ Some element → old ≡ record { count = count; nets = with_nets start (filter (λ net. not (has known net)) (inputs_of (elements_at elements (take i members)))) } → new ≡ record { count = old.count; nets = with_nets old.nets (filter (λ net. not (has known net)) element.inputs) } → new ≡ record { count = count; nets = with_nets start (filter (λ net. not (has known net)) (inputs_of (elements_at elements (take (i + 1) members)))) }
@@ -36,9 +34,7 @@ inputs_more elements known members i count start old new element h read before a
     let count_is : old.count ≡ count = ap (λ (set : NetsAmong). set.count) before in
     let nets_are : old.nets ≡ with_nets start (flat_map f (elements_at elements (take i members))) = ap (λ (set : NetsAmong). set.nets) before ∙ ap (with_nets start) (sym (inputs_flat p (elements_at elements (take i members)))) in
     let more = gathered_more f elements members i start element h read ∙ ap (with_nets start) (inputs_flat p (elements_at elements (take (i + 1) members))) in
-    after ∙ ap (λ (nets : List ℕ). let set : NetsAmong = record { count = old.count; nets = with_nets nets (f element) } in set) nets_are
-    ∙ ap (λ (nets : List ℕ). let set : NetsAmong = record { count = old.count; nets = nets } in set) more
-    ∙ ap (λ (number : ℕ). let set : NetsAmong = record { count = number; nets = with_nets start (filter p (inputs_of (elements_at elements (take (i + 1) members)))) } in set) count_is
+    grind arith
 
 -- the clock of one more member
 pub clocks_more : (elements : List LogicElement) (members : List ℕ) (i count : ℕ) (start : List ℕ) (old new : NetsAmong) (element : LogicElement) → i < length members → slice_get elements (get_or members i 0) ≡ Some element → old ≡ record { count = count; nets = with_nets start (all_clocks_of (elements_at elements (take i members))) } → new ≡ record { count = old.count; nets = with_nets old.nets (option_to_list element.clock) } → new ≡ record { count = count; nets = with_nets start (all_clocks_of (elements_at elements (take (i + 1) members))) }
@@ -47,40 +43,24 @@ clocks_more elements members i count start old new element h read before after =
     let count_is : old.count ≡ count = ap (λ (set : NetsAmong). set.count) before in
     let nets_are : old.nets ≡ with_nets start (flat_map f (elements_at elements (take i members))) = ap (λ (set : NetsAmong). set.nets) before in
     let more = gathered_more f elements members i start element h read in
-    after ∙ ap (λ (nets : List ℕ). let set : NetsAmong = record { count = old.count; nets = with_nets nets (f element) } in set) nets_are
-    ∙ ap (λ (nets : List ℕ). let set : NetsAmong = record { count = old.count; nets = nets } in set) more
-    ∙ ap (λ (number : ℕ). let set : NetsAmong = record { count = number; nets = with_nets start (all_clocks_of (elements_at elements (take (i + 1) members))) } in set) count_is
-
-has_filter_by : (p : ℕ → Bool) (b : Bool) (nets : List ℕ) (other net : ℕ) → p other ≡ b → p net ≡ true → has (filter p nets) net ≡ has nets net → has (cond b (other ∷ filter p nets) (filter p nets)) net ≡ (eqb other net || has nets net)
-has_filter_by p b nets other net is pass rest = grind arith
+    grind arith
 
 -- a filter doesn't change whether a net that passes is in the list
 has-filter : (p : ℕ → Bool) (nets : List ℕ) (net : ℕ) → p net ≡ true → has (filter p nets) net ≡ has nets net
 has-filter p [] net pass = refl
-has-filter p (other ∷ nets) net pass = has_filter_by p (p other) nets other net refl pass (has-filter p nets net pass)
-
-filter_with_by : (p : ℕ → Bool) (b there : Bool) (nets : List ℕ) (net : ℕ) → p net ≡ b → has nets net ≡ there → filter p (cond there nets (nets ++ net ∷ [])) ≡ cond b (with_net (filter p nets) net) (filter p nets)
-filter_with_by p b there nets net pass is = grind (arith, has-filter, filter-append, append-nil)
+has-filter p (other ∷ nets) net pass = grind (arith, has-filter p nets net pass)
 
 filter-with_net : (p : ℕ → Bool) (nets : List ℕ) (net : ℕ) → filter p (with_net nets net) ≡ cond (p net) (with_net (filter p nets) net) (filter p nets)
-filter-with_net p nets net = filter_with_by p (p net) (has nets net) nets net refl refl
+filter-with_net p nets net = grind (arith, has-filter, filter-append, append-nil)
 
 -- filtering a set of nets is building it from the filtered nets
 pub filter-with_nets : (p : ℕ → Bool) (nets others : List ℕ) → filter p (with_nets nets others) ≡ with_nets (filter p nets) (filter p others)
 filter-with_nets p nets [] = refl
 filter-with_nets p nets (other ∷ others) = grind (arith, filter-with_net, filter-with_nets p (with_net nets other) others)
 
--- the outside inputs, if driven nets are left out from the start
-pub outside_gathered : (elements : List LogicElement) (outputs : List ℕ) → outputs ≡ with_nets [] (outputs_of elements) → with_nets [] (filter (λ net. not (has outputs net)) (inputs_of elements)) ≡ outside_inputs elements
-outside_gathered elements outputs are = grind (arith, filter-with_nets, has-with_nets)
-
 -- the outside inputs as a set
 pub inputs_gathered : (elements : List LogicElement) (count : ℕ) (no_outputs outputs no_inputs inputs : NetsAmong) → no_outputs.nets ≡ [] → outputs ≡ record { count = no_outputs.count; nets = with_nets no_outputs.nets (outputs_of elements) } → no_inputs ≡ record { count = count; nets = [] } → inputs ≡ record { count = no_inputs.count; nets = with_nets no_inputs.nets (filter (λ net. not (has outputs.nets net)) (inputs_of elements)) } → inputs ≡ record { count = count; nets = outside_inputs elements }
-inputs_gathered elements count no_outputs outputs no_inputs inputs none driven cleared read =
-    let outputs_are : outputs.nets ≡ with_nets [] (outputs_of elements) = ap (λ (set : NetsAmong). set.nets) driven ∙ ap (λ (nets : List ℕ). with_nets nets (outputs_of elements)) none in
-    read
-    ∙ ap (λ (set : NetsAmong). let new : NetsAmong = record { count = set.count; nets = with_nets set.nets (filter (λ net. not (has outputs.nets net)) (inputs_of elements)) } in new) cleared
-    ∙ ap (λ (nets : List ℕ). let new : NetsAmong = record { count = count; nets = nets } in new) (outside_gathered elements outputs.nets outputs_are)
+inputs_gathered elements count no_outputs outputs no_inputs inputs none driven cleared read = grind (arith, filter-with_nets, has-with_nets)
 
 -- the net occurs in the list at most once
 abbrev pub StandsOnce : List ℕ → ℕ → Type 0
@@ -95,4 +75,4 @@ once_with_net nets net other once = grind (arith, filter-with_net, has-with_net)
 -- a net still occurs at most once after others are added
 pub once_with_nets : (nets others : List ℕ) (net : ℕ) → StandsOnce nets net → StandsOnce (with_nets nets others) net
 once_with_nets nets [] net once = once
-once_with_nets nets (other ∷ others) net once = once_with_nets (with_net nets other) others net (once_with_net nets net other once)
+once_with_nets nets (other ∷ others) net once = grind (arith, once_with_nets (with_net nets other) others net (once_with_net nets net other once))

@@ -1,5 +1,5 @@
 -- No two BLEs drive the same net.
-use Rattle.cluster.proofs.Prelude.{◌≡◌, ◌≢◌, ℕ, suc, zero, ◌<◌, ◌⊎◌, inl, inr, Bool, true, false, not, cond, ◌&&◌, ◌==◌, nat_eq, List, [], ◌∷◌, ◌++◌, Option, Some, None, All, filter, find, drop, length, get_or, map, refl, sym, ap, subst, ◌∙◌, arith, AllPairs, list_any, prefix_len, take_while, IsPermutation, cases_order, eqb-true, Decides-eqb, nat_tests, append_assoc, get_or_default, map-append, take-append-drop, All-cons, All-filter, All-head, All-map, All-nil, All-tail, filter_passes, AllPairs-filter, IsPermutation-append_comm, IsPermutation-append_left, IsPermutation-append_right, IsPermutation-cons, IsPermutation-middle, IsPermutation-refl, IsPermutation-sym, IsPermutation-trans, IsDistinct-IsPermutation, AllPairs-from_IsDistinct, IsDistinct-from_AllPairs, nat_eq_equiv, Circuit, Latch, LookupTable, IsCircuit, LogicElement, bles_of, element_of_latch, element_of_table, in_line_order, is_read_once, latch_after, stands_alone, is_above, outputs_of}
+use Rattle.cluster.proofs.Prelude.{◌≡◌, ◌≢◌, ℕ, suc, zero, ◌<◌, ◌⊎◌, inl, inr, Bool, true, false, not, cond, ◌&&◌, ◌==◌, nat_eq, List, [], ◌∷◌, ◌++◌, Option, Some, None, All, filter, find, drop, length, get_or, map, refl, sym, ap, subst, ◌∙◌, arith, AllPairs, list_any, prefix_len, take_while, IsPermutation, cases_order, Decides-eqb, nat_tests, append_assoc, get_or_default, map-append, take-append-drop, All-cons, All-filter, All-head, All-map, All-nil, All-tail, filter_passes, AllPairs-filter, IsPermutation-append_comm, IsPermutation-append_left, IsPermutation-append_right, IsPermutation-cons, IsPermutation-middle, IsPermutation-refl, IsPermutation-sym, IsPermutation-trans, IsDistinct-IsPermutation, AllPairs-from_IsDistinct, IsDistinct-from_AllPairs, nat_eq_equiv, Circuit, Latch, LookupTable, IsCircuit, LogicElement, bles_of, element_of_latch, element_of_table, in_line_order, is_read_once, latch_after, stands_alone, is_above, outputs_of}
 use Rattle.cluster.proofs.Pairs.{pairs_across, pairs_append, pairs_back, pairs_front, pairs_map, pairs_of_map, pairs_with}
 
 -- the net that a table drives, itself or through the latch that stores its output
@@ -85,13 +85,7 @@ module _ (circuit : Circuit) (lawful : IsCircuit circuit) where
     pub once : is_read_once circuit net ≡ true
 
   behind : (net : ℕ) (latch : Latch) → latch_after circuit net ≡ Some latch → IsBehind net latch
-  behind net latch is = by (is_read_once circuit net) refl
-    where
-      by : (b : Bool) → is_read_once circuit net ≡ b → IsBehind net latch
-      by true once =
-          let found = find_in (λ (latch : Latch). latch.input == net) circuit.latches latch (sym (ap (λ (b : Bool). cond b (find (λ (latch : Latch). latch.input == net) circuit.latches) None) once) ∙ is) in
-          record { there = (found.0.0, found.0.1, λ d. get_or_default circuit.latches found.0.0 d latch found.0.1 ∙ found.0.2); input = eqb-true latch.input net found.1; once = once }
-      by false often = absurd (let wrong = sym (ap (λ (b : Bool). cond b (find (λ (latch : Latch). latch.input == net) circuit.latches) None) often) ∙ is in cc)
+  behind net latch is = grind (arith, find_in, get_or_default)
 
   -- two tables drive different nets
   tables_differ : (table other : LookupTable) → IsIn circuit.tables table → IsIn circuit.tables other → table.output ≢ other.output → out circuit table ≢ out circuit other

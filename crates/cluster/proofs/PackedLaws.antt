@@ -74,21 +74,15 @@ output_at packed cluster place h =
     ap (option_and_then f) (slice_get-get_or (outputs_of elements) place 0 outputs)
     ∙ ap f (get_or-map (λ (element : LogicElement). element.output) elements place none 0 among ∙ ap (λ (element : LogicElement). element.output) (get_or-map (element_at (bles_of packed.circuit)) members place 0 none h))
 
-if_leaves : (packed : PackedCircuit) (block net : ℕ) → leaves_block packed block net ≡ true → if_leaving packed block net ≡ Some net
-if_leaves packed block net is = grind arith
-
-if_stays : (packed : PackedCircuit) (block net : ℕ) → leaves_block packed block net ≡ false → if_leaving packed block net ≡ None
-if_stays packed block net is = grind arith
-
 -- the output of the BLE at an index
 pub output_of_member : (packed : PackedCircuit) (elements : List LogicElement) (cluster place : ℕ) (members : List ℕ) (element : LogicElement) → elements ≡ bles_of packed.circuit → slice_get packed.clusters cluster ≡ Some members → place < length members → slice_get elements (get_or members place 0) ≡ Some element → net_on_pin packed cluster Output place ≡ if_leaving packed (cluster_block packed cluster) element.output
 output_of_member packed elements cluster place members element elements_are found h read = search (get_or_from_slice_get, output_at, arith)
 
 pub output_leaves : (packed : PackedCircuit) (elements : List LogicElement) (cluster place : ℕ) (members : List ℕ) (element : LogicElement) → elements ≡ bles_of packed.circuit → slice_get packed.clusters cluster ≡ Some members → place < length members → slice_get elements (get_or members place 0) ≡ Some element → leaves_block packed (cluster_block packed cluster) element.output ≡ true → Some element.output ≡ net_on_pin packed cluster Output place
-output_leaves packed elements cluster place members element elements_are found h read leaves = grind (arith, if_leaves, output_of_member packed elements cluster place members element elements_are found h read, if_leaves packed (cluster_block packed cluster) element.output leaves)
+output_leaves packed elements cluster place members element elements_are found h read leaves = grind (arith, output_of_member packed elements cluster place members element elements_are found h read)
 
 pub output_stays : (packed : PackedCircuit) (elements : List LogicElement) (cluster place : ℕ) (members : List ℕ) (element : LogicElement) → elements ≡ bles_of packed.circuit → slice_get packed.clusters cluster ≡ Some members → place < length members → slice_get elements (get_or members place 0) ≡ Some element → leaves_block packed (cluster_block packed cluster) element.output ≡ false → None ≡ net_on_pin packed cluster Output place
-output_stays packed elements cluster place members element elements_are found h read stays = grind (arith, if_stays, output_of_member packed elements cluster place members element elements_are found h read, if_stays packed (cluster_block packed cluster) element.output stays)
+output_stays packed elements cluster place members element elements_are found h read stays = grind (arith, output_of_member packed elements cluster place members element elements_are found h read)
 
 -- the nets on an input pin and on the clock pin
 pub input_entry : (packed : PackedCircuit) (tables : PackedTables) (cluster rank : ℕ) (row : List ℕ) → cluster < length packed.clusters → AreTablesOf packed tables → slice_get tables.inputs cluster ≡ Some row → slice_get row rank ≡ net_on_pin packed cluster Input rank

@@ -1,5 +1,5 @@
 -- Each BLE is in exactly one cluster.
-use Rattle.cluster.proofs.Prelude.{◌≡◌, ℕ, suc, zero, ◌+◌, ◌<◌, ◌≤◌, Bool, true, false, not, ◌||◌, ◌==◌, List, [], ◌∷◌, ◌++◌, All, None, filter, length, refl, sym, ap, ◌∙◌, ◌⊎◌, inl, inr, arith, concat, list_any, range_with_len, append-nil, concat-append, All-nil, All-cons, All-head, All-tail, All-append, All-weaker, filter_passes, eqb-true, nat_tests, Arch, IsOnce, has, LogicElement, cluster_of, clusters_after, elements_at, fits_in_cluster, free_of, unfit_among, with_cluster, has-append}
+use Rattle.cluster.proofs.Prelude.{◌≡◌, ℕ, suc, zero, ◌+◌, ◌<◌, ◌≤◌, Bool, true, false, not, ◌||◌, ◌==◌, List, [], ◌∷◌, ◌++◌, All, None, filter, length, refl, ap, ◌∙◌, ◌⊎◌, inl, inr, arith, concat, list_any, range_with_len, append-nil, concat-append, All-nil, All-cons, All-head, All-tail, All-append, All-weaker, filter_passes, nat_tests, Arch, IsOnce, has, LogicElement, clusters_after, elements_at, fits_in_cluster, free_of, unfit_among, with_cluster, has-append}
 use Rattle.cluster.proofs.Legal.{IsLegal, cluster_legal}
 use Rattle.cluster.proofs.Members.{free_lawful}
 use Rattle.cluster.proofs.Steps.{Going, free_after, going_first, going_on, step_idle}
@@ -14,9 +14,7 @@ apart_first : (number : ℕ) (numbers others : List ℕ) → All (λ other. has 
 apart_first number numbers [] apart = refl
 apart_first number numbers (other ∷ others) apart =
     let P : ℕ → Type 0 = λ other. has (number ∷ numbers) other ≡ false in
-    let here : has (number ∷ numbers) other ≡ false = All-head P other others apart in
-    let rest = apart_first number numbers others (All-tail P other others apart) in
-    grind (arith, nat_tests, here, rest)
+    grind (arith, All-head, apart_first number numbers others (All-tail P other others apart))
 
 apart_rest : (number : ℕ) (numbers others : List ℕ) → All (λ other. has (number ∷ numbers) other ≡ false) others → All (λ other. has numbers other ≡ false) others
 apart_rest number numbers others apart = All-weaker (λ other. has (number ∷ numbers) other ≡ false) (λ other. has numbers other ≡ false) (λ other h. grind (arith, h)) others apart
@@ -35,10 +33,7 @@ pub record ArePacked (arch : Arch) (elements : List LogicElement) (clusters : Li
 module _ (arch : Arch) (elements : List LogicElement) (fit : unfit_among arch elements ≡ None) where
   -- a free BLE is not in a cluster
   all_free : (clusters : List (List ℕ)) → All (λ number. (has (concat clusters) number ≡ false) × (number < length elements)) (free_of elements clusters)
-  all_free clusters = λ k d lt.
-      let passes = filter_passes (λ number. not (list_any (λ cluster. has cluster number) clusters)) (range_with_len 0 (length elements)) k d lt in
-      let joined = has-concat clusters in
-      (grind (arith, passes, joined), free_lawful arch elements clusters k d lt)
+  all_free clusters = grind (arith, filter_passes, has-concat, free_lawful)
 
   one_more : (clusters : List (List ℕ)) (cluster : List ℕ) → ArePacked arch elements clusters → IsLegal arch elements (λ number. (has (concat clusters) number ≡ false) × (number < length elements)) cluster → ArePacked arch elements (with_cluster clusters cluster)
   one_more clusters [] packed legal = packed
@@ -54,10 +49,7 @@ module _ (arch : Arch) (elements : List LogicElement) (fit : unfit_among arch el
   pub all_packed : (steps : ℕ) → ArePacked arch elements (clusters_after arch elements steps)
   unfolding clusters_after
   all_packed zero = record { once = tt; within = All-nil (λ number. number < length elements); fit = All-nil (λ members. fits_in_cluster arch (elements_at elements members) ≡ true) }
-  all_packed (suc steps) =
-      let clusters = clusters_after arch elements steps in
-      let free = free_of elements clusters in
-      one_more clusters (cluster_of arch elements free) (all_packed steps) (cluster_legal arch elements (λ number. (has (concat clusters) number ≡ false) × (number < length elements)) free (all_free clusters) fit (free_lawful arch elements clusters))
+  all_packed (suc steps) = search (one_more, cluster_legal, all_free, free_lawful, all_packed steps, arith)
 
 module _ (arch : Arch) (elements : List LogicElement) where
   -- after this number of steps no BLE is free, or each step took a BLE
@@ -75,22 +67,12 @@ module _ (arch : Arch) (elements : List LogicElement) where
   empty (number ∷ numbers) none = absurd (omega (arith, none))
 
   none_free : free_after arch elements (length elements) ≡ []
-  none_free = by (free_or_going (length elements))
-    where
-      by : (free_after arch elements (length elements) ≡ []) ⊎ Going arch elements (length elements) → free_after arch elements (length elements) ≡ []
-      by (inl none) = none
-      by (inr going) = empty (free_after arch elements (length elements)) (omega (arith, going.taken))
+  none_free = grind (arith, free_or_going, empty)
 
   -- a number that passes a filter is kept
   has-filter : (test : ℕ → Bool) (numbers : List ℕ) (number : ℕ) → has numbers number ≡ true → test number ≡ true → has (filter test numbers) number ≡ true
   has-filter test [] number h passes = absurd cc
-  has-filter test (first ∷ numbers) number h passes = by (first == number) refl (test first) refl (has-filter test numbers number)
-    where
-      by : (a : Bool) → (first == number) ≡ a → (b : Bool) → test first ≡ b → (has numbers number ≡ true → test number ≡ true → has (filter test numbers) number ≡ true) → has (filter test (first ∷ numbers)) number ≡ true
-      by true same true t rest = grind (arith, same, t)
-      by true same false t rest = let wrong : true ≡ false = sym passes ∙ ap test (sym (eqb-true first number same)) ∙ t in absurd cc
-      by false other true t rest = let r = rest (grind (arith, h, other)) passes in grind (arith, t, r)
-      by false other false t rest = let r = rest (grind (arith, h, other)) passes in grind (arith, t, r)
+  has-filter test (first ∷ numbers) number h passes = grind (arith, has-filter test numbers number)
 
   has-range : (start count number : ℕ) → start ≤ number → number < start + count → has (range_with_len start count) number ≡ true
   has-range start zero number low high = absurd (omega (arith, low, high))

@@ -1,5 +1,5 @@
 -- The blocks that read each net, gathered cluster by cluster.
-use Rattle.cluster.proofs.Prelude.{◌≡◌, refl, sym, ap, subst, ◌∙◌, ℕ, ◌+◌, ◌<◌, ◌==◌, Bool, cond, eqb, if◌then◌else◌, List, [], ◌∷◌, ◌++◌, All, length, take, get_or, map, filter, slice_index, arith, Some, flat_map, range_with_len, append-nil, append_assoc, map-id, map_more, flat_map-append, All-append, All-map, All-push, All-nil, map-range_with_len_more, get_or_from_slice_get, Circuit, Keyed, ClusterSets, has, with_nets, NetsAmong, LogicElement, elements_at, outside_inputs, clocks_of, items_with, items_by_key, TellReaders, inputs_of_clusters, clocks_of_clusters, pads_with, clusters_with, nets_read, members_of, readers_by_net, pairs_with, items_with-append}
+use Rattle.cluster.proofs.Prelude.{◌≡◌, refl, sym, ap, subst, ◌∙◌, ℕ, ◌+◌, ◌<◌, Bool, cond, eqb, List, [], ◌∷◌, ◌++◌, All, length, take, get_or, map, filter, slice_index, arith, Some, flat_map, range_with_len, append-nil, append_assoc, map-id, map_more, flat_map-append, All-append, All-map, All-push, All-nil, map-range_with_len_more, get_or_from_slice_get, Circuit, Keyed, ClusterSets, with_nets, NetsAmong, LogicElement, elements_at, outside_inputs, clocks_of, items_with, items_by_key, TellReaders, inputs_of_clusters, clocks_of_clusters, nets_read, members_of, readers_by_net, pairs_with, items_with-append}
 use Rattle.std.specs.Prelude.{slice_get}
 use Rattle.cluster.proofs.NetLists.{StandsOnce, once_with_nets, filter-with_nets}
 
@@ -20,10 +20,6 @@ flat_map-range_more {A} f count =
     sym (map-id (range_with_len 0 (count + 1))) ∙ map-range_with_len_more id 0 count count (omega arith) ∙ ap (λ (front : List ℕ). front ++ count ∷ []) (map-id (range_with_len 0 count)) in
     ap (flat_map f) more ∙ flat_map-append f (range_with_len 0 count) (count ∷ []) ∙ ap (λ (last : List A). flat_map f (range_with_len 0 count) ++ last) (append-nil (f count))
 
--- the items of one pair
-items_with_one : (b : Bool) (pair : Keyed) → map (λ (pair : Keyed). pair.item) (cond b (pair ∷ []) []) ≡ cond b (pair.item ∷ []) []
-items_with_one b pair = grind arith
-
 -- no pads and no clusters have no pairs
 pub tell_none : (circuit : Circuit) (elements : List LogicElement) (clusters : List (List ℕ)) (pairs : List Keyed) → pairs ≡ [] → TellReaders circuit elements clusters 0 0 pairs
 tell_none circuit elements clusters pairs none = subst (TellReaders circuit elements clusters 0 0) (sym none) (record { within = All-nil (λ (pair : Keyed). pair.key < length circuit.nets); tell = λ net. refl })
@@ -34,12 +30,7 @@ tell_pad circuit elements clusters pad old new net_within before more =
     let last : Keyed = record { key = slice_index circuit.outputs pad; item = length circuit.inputs + pad } in
     subst (TellReaders circuit elements clusters (pad + 1) 0) (sym more) (record {
       within = All-push (λ (pair : Keyed). pair.key < length circuit.nets) old last before.within net_within;
-      tell = λ net.
-          items_with-append old (last ∷ []) net
-          ∙ ap (λ (items : List ℕ). items_with old net ++ items) (items_with_one (eqb last.key net) last)
-          ∙ ap (λ (items : List ℕ). items ++ cond (eqb last.key net) (last.item ∷ []) []) (before.tell net ∙ append-nil (pads_with circuit net pad))
-          ∙ sym (flat_map-range_more (λ pad. if slice_index circuit.outputs pad == net then (length circuit.inputs + pad) ∷ [] else []) pad)
-          ∙ sym (append-nil (pads_with circuit net (pad + 1)));
+      tell = grind (arith, items_with-append, append-nil, flat_map-range_more);
     })
 
 -- each outside input occurs once
@@ -61,15 +52,7 @@ tell_cluster circuit elements clusters cluster nets old new nets_within nets_are
     let members = members_of elements clusters cluster in
     subst (TellReaders circuit elements clusters (length circuit.outputs) (cluster + 1)) (sym more) (record {
       within = All-append (λ (pair : Keyed). pair.key < length circuit.nets) old (pairs_with item nets) before.within (All-map (λ (pair : Keyed). pair.key < length circuit.nets) (λ net. record { key = net; item = item }) nets nets_within);
-      tell = λ net.
-          let once : StandsOnce (nets_read members) net = once_with_nets (outside_inputs members) (clocks_of members) net (once_outside members net) in
-          let one : items_with (pairs_with item nets) net ≡ cond (has (nets_read members) net) (item ∷ []) [] =
-          items_of_pairs item nets net ∙ ap (λ (nets : List ℕ). map (λ (other : ℕ). item) (filter (λ other. eqb other net) nets)) nets_are ∙ ap (map (λ (other : ℕ). item)) once ∙ one_item (has (nets_read members) net) item net in
-          items_with-append old (pairs_with item nets) net
-          ∙ ap (λ (items : List ℕ). items_with old net ++ items) one
-          ∙ ap (λ (items : List ℕ). items ++ cond (has (nets_read members) net) (item ∷ []) []) (before.tell net)
-          ∙ append_assoc (pads_with circuit net (length circuit.outputs)) (clusters_with circuit elements clusters net cluster) (cond (has (nets_read members) net) (item ∷ []) [])
-          ∙ ap (λ (items : List ℕ). pads_with circuit net (length circuit.outputs) ++ items) (sym (flat_map-range_more (λ cluster. if has (nets_read (members_of elements clusters cluster)) net then (length circuit.inputs + length circuit.outputs + cluster) ∷ [] else []) cluster));
+      tell = grind (arith, once_with_nets, once_outside, items_of_pairs, items_with-append, append_assoc, flat_map-range_more);
     })
 
 -- the readers of all nets, once all pads and clusters are gathered

@@ -1,18 +1,15 @@
 -- Steps of packing: each makes one cluster of free BLEs as long as there are any; after that
 -- nothing changes any more.
-use Rattle.cluster.proofs.Prelude.{◌≡◌, ℕ, suc, zero, ◌+◌, ◌<◌, ◌≤◌, Bool, true, false, not, ◌||◌, ◌==◌, List, [], ◌∷◌, ◌++◌, Option, filter, length, if◌then◌else◌, sym, ap, refl, ◌∙◌, arith, length-append, ◌-◌, max, eqb-true, nat_tests, list_any, range_with_len, option_to_list, list_any-append, length-range_with_len, Arch, has, LogicElement, cluster_of, clusters_after, free_of, members_after, input_count_at, leader_of, next_member, with_cluster, no_cluster}
+use Rattle.cluster.proofs.Prelude.{◌≡◌, ℕ, suc, zero, ◌+◌, ◌<◌, ◌≤◌, Bool, true, false, not, ◌||◌, ◌==◌, List, [], ◌∷◌, ◌++◌, filter, length, if◌then◌else◌, sym, ap, refl, ◌∙◌, arith, length-append, ◌-◌, max, eqb-true, nat_tests, list_any, range_with_len, list_any-append, length-range_with_len, Arch, has, LogicElement, cluster_of, clusters_after, free_of, members_after, input_count_at, leader_of, with_cluster, no_cluster}
 
 -- a cluster begins with its seed
 pub record BeginsWith (seed : ℕ) (members : List ℕ) : Type 0 where
   pub others : List ℕ
   pub whole : members ≡ seed ∷ others
 
-keeps_seed : {seed : ℕ} {members : List ℕ} (added : Option ℕ) → BeginsWith seed members → BeginsWith seed (members ++ option_to_list added)
-keeps_seed added b = record { others = b.others ++ option_to_list added; whole = rw b.whole refl }
-
 grows_on : (arch : Arch) (elements : List LogicElement) (free : List ℕ) (seed additions : ℕ) → BeginsWith seed (members_after arch elements free (seed ∷ []) additions)
 grows_on arch elements free seed zero = record { others = []; whole = refl }
-grows_on arch elements free seed (suc additions) = keeps_seed (next_member arch elements free (members_after arch elements free (seed ∷ []) additions)) (grows_on arch elements free seed additions)
+grows_on arch elements free seed (suc additions) = grind (arith, grows_on arch elements free seed additions)
 
 -- the leading number is the first or one of the others
 leads_among : (score : ℕ → ℕ) (best : ℕ) (numbers : List ℕ) → has (best ∷ numbers) (leader_of score best numbers) ≡ true
@@ -77,10 +74,7 @@ module _ (arch : Arch) (elements : List LogicElement) where
     pub fewer : length (free_of elements later) < length (free_of elements clusters)
 
   with_seeded : (clusters : List (List ℕ)) (cluster : List ℕ) → Seeded (free_of elements clusters) cluster → StepMade clusters (with_cluster clusters cluster)
-  with_seeded clusters cluster s = rw s.begins.whole (record {
-    more = length-append clusters ((s.seed ∷ s.begins.others) ∷ []);
-    fewer = filter_fewer (is_free clusters) (is_free (clusters ++ (s.seed ∷ s.begins.others) ∷ [])) (later_free clusters (s.seed ∷ s.begins.others)) s.seed (range_with_len 0 (length elements)) s.is_free (taken_now clusters (s.seed ∷ s.begins.others) s.seed (has_seed (record { others = s.begins.others; whole = refl })));
-  })
+  with_seeded clusters cluster s = grind (arith, length-append, filter_fewer, later_free, taken_now)
 
   made : (clusters : List (List ℕ)) (number : ℕ) (free : List ℕ) → free_of elements clusters ≡ number ∷ free → StepMade clusters (with_cluster clusters (cluster_of arch elements (free_of elements clusters)))
   made clusters number free e = with_seeded clusters (cluster_of arch elements (free_of elements clusters)) (rw e (cluster_seeded arch elements number free))
@@ -110,8 +104,7 @@ module _ (arch : Arch) (elements : List LogicElement) where
   idle steps zero later e none = let same : later ≡ steps = omega (arith, e) in ap (clusters_after arch elements) same
   idle steps (suc more) later e none =
       let same : later ≡ suc (more + steps) = omega (arith, e) in
-      let before = idle steps more (more + steps) refl none in
-      ap (clusters_after arch elements) same ∙ step_idle (more + steps) (rw before none) ∙ before
+      grind (arith, step_idle, idle steps more (more + steps) refl none)
 
   -- the number of clusters never decreases
   one_grows : (steps : ℕ) (free : List ℕ) → free_after steps ≡ free → length (clusters_after arch elements steps) ≤ length (clusters_after arch elements (suc steps))
@@ -120,9 +113,7 @@ module _ (arch : Arch) (elements : List LogicElement) where
 
   grows : (steps more later : ℕ) → later ≡ more + steps → length (clusters_after arch elements steps) ≤ length (clusters_after arch elements later)
   grows steps zero later e = let same : later ≡ steps = omega (arith, e) in rw same (omega arith)
-  grows steps (suc more) later e =
-      let same : later ≡ suc (more + steps) = omega (arith, e) in
-      rw same (omega (arith, grows steps more (more + steps) refl, one_grows (more + steps) (free_after (more + steps)) refl))
+  grows steps (suc more) later e = grind (arith, one_grows, grows steps more (more + steps) refl)
 
   -- the clusters once each BLE is in one
   abbrev pub whole : List (List ℕ)
@@ -134,19 +125,13 @@ module _ (arch : Arch) (elements : List LogicElement) where
     pub steps : done + 1 ≡ max 1 (length whole)
 
   at_end : (steps : ℕ) → free_after steps ≡ [] → steps ≤ length elements → whole ≡ clusters_after arch elements steps
-  at_end steps none small =
-      idle steps (length elements - steps) (length elements) (omega (arith, small)) none
+  at_end steps none small = grind (arith, idle steps (length elements - steps) (length elements) (omega (arith, small)) none)
 
   last_of_some : (done number : ℕ) (free : List ℕ) → Going done → free_after done ≡ number ∷ free → free_after (suc done) ≡ [] → IsLastStep done
-  last_of_some done number free g e none =
-      let h = going_on done number free e g in
-      let w = at_end (suc done) none (omega (arith, h.taken)) in
-      record { clusters = ap (clusters_after arch elements) (omega arith) ∙ sym w; steps = rw w (omega (arith, h.clusters)) }
+  last_of_some done number free g e none = grind (arith, going_on, at_end)
 
   last_of_none : (done : ℕ) → Going done → free_after done ≡ [] → done ≡ 0 → IsLastStep done
-  last_of_none done g none first =
-      let w = at_end done none (omega (arith, g.taken)) in
-      record { clusters = ap (clusters_after arch elements) (omega arith) ∙ step_idle done none ∙ sym w; steps = rw w (omega (arith, g.clusters, first)) }
+  last_of_none done g none first = grind (arith, at_end done none (omega (arith, g.taken)), step_idle done none)
 
   pub last_step : (done : ℕ) → Going done → (free_after done ≡ [] → done ≡ 0) → free_after (suc done) ≡ [] → IsLastStep done
   last_step done g begun none = by (free_after done) refl

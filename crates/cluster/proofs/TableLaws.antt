@@ -1,13 +1,11 @@
 -- The tables of a packed circuit.
-use Rattle.cluster.proofs.Prelude.{◌≡◌, sym, ap, subst, ◌∙◌, ℕ, ◌<◌, ◌++◌, All, List, [], Some, length, get_or, slice_get, arith, length-map-range_with_len, get_or_from_slice_get, slice_get_within, Arch, Circuit, NetUses, PackedTables, distinct_nets, NetsAmong, LogicElement, bles_of, PackedCircuit, BlockNet, leaves_block, IsElementWithin, inputs_of_clusters, clocks_of_clusters, clusters_with, pads_with, readers_by_net, pin_ranks, controls_of, input_nets, cluster_nets, leaves_by, IsPacked, ArePartsOf, AreTablesOf}
+use Rattle.cluster.proofs.Prelude.{◌≡◌, ap, ◌∙◌, ℕ, ◌<◌, ◌++◌, List, [], Some, length, slice_get, arith, length-map-range_with_len, get_or_from_slice_get, slice_get_within, Arch, Circuit, NetUses, PackedTables, distinct_nets, NetsAmong, LogicElement, bles_of, PackedCircuit, BlockNet, leaves_block, inputs_of_clusters, clocks_of_clusters, readers_by_net, pin_ranks, controls_of, input_nets, cluster_nets, leaves_by, IsPacked, ArePartsOf, AreTablesOf}
 use Rattle.cluster.proofs.BlockLists.{leaves_by_uses, nets_by_uses}
 use Rattle.cluster.proofs.FewBlocks.{elements_within}
 
 -- a row for each net
 pub uses_count : (circuit : Circuit) (elements : List LogicElement) (clusters : List (List ℕ)) (uses : NetUses) → uses.globals ≡ record { count = length circuit.nets; nets = distinct_nets (controls_of circuit.latches) } → uses.readers ≡ readers_by_net circuit elements clusters → length uses.readers ≡ uses.globals.count
-uses_count circuit elements clusters uses globals readers =
-    let f : ℕ → List ℕ = λ net. pads_with circuit net (length circuit.outputs) ++ clusters_with circuit elements clusters net (length clusters) in
-    ap (λ (rows : List (List ℕ)). length rows) readers ∙ length-map-range_with_len f 0 (length circuit.nets) ∙ sym (ap (λ (set : NetsAmong). set.count) globals)
+uses_count circuit elements clusters uses globals readers = grind (arith, length-map-range_with_len)
 
 -- the tables that were built are those of the packed circuit
 pub tables_made : (circuit : Circuit) (arch : Arch) (elements : List LogicElement) (clusters : List (List ℕ)) (tables : PackedTables) (none inputs : List BlockNet) → elements ≡ bles_of circuit → IsPacked (record { circuit = circuit; arch = arch; clusters = clusters }) → tables.inputs ≡ inputs_of_clusters elements clusters → tables.clocks ≡ clocks_of_clusters elements clusters
@@ -31,20 +29,11 @@ tables_made circuit arch elements clusters tables none inputs elements_are lawfu
 
 -- the net that a BLE drives is covered by the tables
 pub ble_within : (packed : PackedCircuit) (elements : List LogicElement) (tables : PackedTables) (number : ℕ) (element : LogicElement) → ArePartsOf packed elements tables → slice_get elements number ≡ Some element → (element.output < tables.uses.globals.count) × (element.output < length tables.uses.readers)
-ble_within packed elements tables number element parts read =
-    let circuit = packed.circuit in
-    let within : All (IsElementWithin (length circuit.nets)) elements = subst (λ (elements : List LogicElement). All (IsElementWithin (length circuit.nets)) elements) (sym parts.bles) (elements_within circuit parts.lawful.circuit) in
-    let is : get_or elements number element ≡ element = get_or_from_slice_get elements number element element read in
-    let lawful : IsElementWithin (length circuit.nets) element = subst (IsElementWithin (length circuit.nets)) is (within number element (slice_get_within elements number element read)) in
-    let output = lawful.output in
-    let count : tables.uses.globals.count ≡ length circuit.nets = ap (λ (set : NetsAmong). set.count) parts.kept.globals in
-    let rows = uses_count circuit (bles_of circuit) packed.clusters tables.uses parts.kept.globals parts.kept.readers in
-    (omega arith, omega arith)
+ble_within packed elements tables number element parts read = grind (arith, elements_within, uses_count, get_or_from_slice_get elements number element element read, slice_get_within elements number element read)
 
 -- whether a net leaves its block
 pub leaves_told : (packed : PackedCircuit) (elements : List LogicElement) (tables : PackedTables) (number : ℕ) (element : LogicElement) → ArePartsOf packed elements tables → slice_get elements number ≡ Some element → (block driver : ℕ) → block ≡ driver → leaves_by tables.uses block element.output ≡ leaves_block packed driver element.output
 leaves_told packed elements tables number element parts read block driver same =
     let count : tables.uses.globals.count ≡ length packed.circuit.nets = ap (λ (set : NetsAmong). set.count) parts.kept.globals in
     let here = (ble_within packed elements tables number element parts read).0 in
-    ap (λ (block : ℕ). leaves_by tables.uses block element.output) same
-    ∙ leaves_by_uses packed tables.uses driver element.output (record { globals = parts.kept.globals; readers = parts.kept.readers }) (omega arith)
+    grind (arith, leaves_by_uses)

@@ -69,20 +69,15 @@ impl Packing {
     {
         let bles = Bles::new(alloc, circuit.circuit())?;
         let grower = FreeBles::new(alloc, bles, circuit.circuit().nets.len())?;
-        match share(circuit, arch) {
-            Ok((circuit, arch)) => Ok(Packing {
-                alloc,
-                circuit,
-                arch,
-                grower,
-                clusters: Rows::new(alloc),
-                made: 0,
-            }),
-            Err(error) => {
-                drop(grower);
-                Err(error)
-            }
-        }
+        let (circuit, arch) = share(circuit, arch)?;
+        Ok(Packing {
+            alloc,
+            circuit,
+            arch,
+            grower,
+            clusters: Rows::new(alloc),
+            made: 0,
+        })
     }
 
     /// The circuit that is packed.
@@ -151,13 +146,8 @@ fn share(
     ensures { IfOk result (λ shared. (shared.0 ≡ circuit.now) × (shared.1 ≡ arch.now)) }
 {
     let circuit = circuit.clone()?;
-    match arch.clone() {
-        Ok(arch) => Ok((circuit, arch)),
-        Err(error) => {
-            drop(circuit);
-            Err(error)
-        }
-    }
+    let arch = arch.clone()?;
+    Ok((circuit, arch))
 }
 
 /// Adds one cluster of free BLEs, if there are any. If memory runs out nothing is added.

@@ -35,13 +35,8 @@ impl PinNets {
             nets.readers ≡ readers_by_net circuit.now bles.now clusters.now) }
     {
         let mut gathered = Gathered::new(alloc, circuit)?;
-        match gathered.add_all(alloc, circuit, bles, clusters) {
-            Ok(readers) => Ok(gathered.into_nets(readers)),
-            Err(error) => {
-                drop(gathered);
-                Err(error)
-            }
-        }
+        let readers = gathered.add_all(alloc, circuit, bles, clusters)?;
+        Ok(gathered.into_nets(readers))
     }
 }
 
@@ -91,9 +86,7 @@ impl Gathered {
     {
         let count = circuit.nets.len();
         let mut sets = ClusterSets::new(alloc, count)?;
-        let added = self.add_with(&mut sets, circuit, bles, clusters);
-        drop(sets);
-        added?;
+        self.add_with(&mut sets, circuit, bles, clusters)?;
         Rows::by_key(alloc, count, self.pairs.as_slice())
     }
 

@@ -13,7 +13,7 @@ pub use Rattle.std.proofs.lemmas.Result.{IfOk-equal, IfOk-weaker}
 pub use Rattle.std.specs.Borrow.{Bor}
 pub use Rattle.std.specs.List.{enumerate_from, flat_map, list_all, list_any, prefix_len, range_with_len, take_while}
 pub use Rattle.std.specs.Option.{option_map_or, option_or, option_to_list}
-pub use Rattle.std.specs.Prelude.{find, is_some}
+pub use Rattle.std.specs.Prelude.{find, is_some, take}
 pub use Rattle.ble_cluster.specs.Nets.{distinct_nets}
 pub use Rattle.cluster.specs.declared.block.Block.{Block}
 pub use Rattle.cluster.specs.declared.block.Block.TheVariants.{Cluster}

@@ -21,28 +21,10 @@ pub(crate) fn ble_numbers(
         numbers.items ≡ ble_numbers arch.now layout.now laid.now) }
 {
     let mut routed = Vec::new(alloc);
-    let filled = match ask_places(arch, layout, laid, &mut routed) {
-        Ok(()) => fill_places(alloc, arch.cluster_size as usize, routed.as_slice()),
-        Err(error) => Err(error),
-    };
-    drop(routed);
-    filled
-}
-
-/// Appends the place at which the routes ask for each BLE to be.
-fn ask_places(
-    arch: &Arch,
-    layout: &Layout,
-    laid: &LaidBlock,
-    routed: &mut Vec<Option<usize>>,
-) -> Result<(), AllocError>
-    ensures { IfOk result (λ _. routed.new.items
-        ≡ routed.old.items ++ routed_places arch.now layout.now laid.now) }
-{
     for (index, ble) in laid.bles().iter().enumerate() {
         routed.push(asked_place(arch, layout, laid, index, ble))?;
     }
-    Ok(())
+    fill_places(alloc, arch.cluster_size as usize, routed.as_slice())
 }
 
 /// The place at which the routes ask for the block's BLE at this index to be.
@@ -83,29 +65,11 @@ fn fill_places(
         filled.items ≡ filled_places routed.now (free_places count routed.now)) }
 {
     let mut filled = Vec::new(alloc);
-    match fill_each(count, routed, &mut filled) {
-        Ok(()) => Ok(filled),
-        Err(error) => {
-            drop(filled);
-            Err(error)
-        }
-    }
-}
-
-/// Appends the place of each BLE.
-fn fill_each(
-    count: usize,
-    routed: &[Option<usize>],
-    filled: &mut Vec<usize>,
-) -> Result<(), AllocError>
-    ensures { IfOk result (λ _. filled.new.items
-        ≡ filled.old.items ++ filled_places routed.now (free_places count routed.now)) }
-{
     let mut from = 0;
     for asked in routed {
         filled.push(place_for(*asked, count, routed, &mut from))?;
     }
-    Ok(())
+    Ok(filled)
 }
 
 /// The place for a BLE: the one that is asked, otherwise the first free one from `from` on, which

@@ -80,39 +80,13 @@ pub fn nets_in(
     ensures { IfOk result (λ nets. nets.items ≡ (traced_ble arch.now laid.now ble.now).inputs) }
 {
     let mut nets = Vec::new(alloc);
-    match add_nets(arch, laid, ble.inputs(), &mut nets) {
-        Ok(()) => Ok(nets),
-        Err(error) => {
-            drop(nets);
-            Err(error)
+    let feeds = ble.inputs();
+    for feed in feeds {
+        if let Some(net) = input_net(arch, laid, *feed) {
+            nets.push(net)?;
         }
     }
-}
-
-/// Appends the nets that come to these inputs.
-fn add_nets(
-    arch: &Arch,
-    laid: &LaidBlock,
-    feeds: &[Feed],
-    nets: &mut Vec<u32>,
-) -> Result<(), AllocError>
-    ensures { IfOk result (λ _. nets.new.items ≡ nets.old.items
-        ++ flat_map (λ feed. option_to_list (input_net arch.now laid.now feed)) feeds.now) }
-{
-    for feed in feeds {
-        add_net(input_net(arch, laid, *feed), nets)?;
-    }
-    Ok(())
-}
-
-/// Appends the net, if there is one.
-fn add_net(net: Option<u32>, nets: &mut Vec<u32>) -> Result<(), AllocError>
-    ensures { IfOk result (λ _. nets.new.items ≡ nets.old.items ++ option_to_list net) }
-{
-    if let Some(net) = net {
-        nets.push(net)?;
-    }
-    Ok(())
+    Ok(nets)
 }
 
 /// The number of the global net that controls the BLE's latch.

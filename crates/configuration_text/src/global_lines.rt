@@ -116,7 +116,5 @@ fn ble_driver(
         ≡ Driver.BleAt (ble_at design.entry.arch.now design.entry.layout.now laid.now index)) }
 {
     let numbers = ble_numbers(alloc, design.arch, design.layout, laid)?;
-    let place = place_at(laid, numbers.as_slice(), index);
-    drop(numbers);
-    Ok(Driver::BleAt(place))
+    Ok(Driver::BleAt(place_at(laid, numbers.as_slice(), index)))
 }

@@ -5,7 +5,7 @@ ghost use Rattle.configuration_text.specs.Prelude.{each_once, is_switch, switch_
 
 use crate::line_bytes::push_switch;
 use crate::nodes::is_new_switch;
-use layouts::{LaidNet, LaidPath};
+use layouts::LaidNet;
 use rr_graph::Node;
 use std::alloc::{AllocError, Global};
 
@@ -16,23 +16,9 @@ pub fn push_switches(alloc: Global, text: &mut Vec<u8>, between: &LaidNet) -> Re
         text.new.items ≡ text.old.items ++ lines_text (switch_lines between.now)) }
 {
     let mut seen = Vec::new(alloc);
-    let pushed = push_paths(text, between.paths(), &mut seen);
-    drop(seen);
-    pushed
-}
-
-/// Appends the lines of the switches of the paths that are not seen yet.
-fn push_paths(
-    text: &mut Vec<u8>,
-    paths: &[LaidPath],
-    seen: &mut Vec<(Node, Node)>,
-) -> Result<(), AllocError>
-    ensures text { IfOk result (λ _. text.new.items
-        ≡ text.old.items ++ lines_text (map (λ edge. Switch edge.0 edge.1)
-        (each_once seen.old.items (filter is_switch (pairs_of paths.now))))) }
-{
+    let paths = between.paths();
     for path in paths {
-        push_path(text, path.nodes(), seen)?;
+        push_path(text, path.nodes(), &mut seen)?;
     }
     Ok(())
 }

@@ -18,27 +18,18 @@ pub fn configuration_text(alloc: Global, design: Design<'_>) -> Result<Vec<u8>, 
         design.entry.arch.now design.entry.strip design.entry.layout.now) }
 {
     let mut text = Vec::new(alloc);
-    push_all(alloc, &mut text, design)?;
-    Ok(text)
-}
-
-/// Appends all lines.
-fn push_all(alloc: Global, text: &mut Vec<u8>, design: Design<'_>) -> Result<(), AllocError>
-    ensures { IfOk result (λ _. text.new.items
-        ≡ text.old.items ++ configuration_text design.entry.netlist.now design.entry.circuit.now
-        design.entry.arch.now design.entry.strip design.entry.layout.now) }
-{
     let arch = design.arch;
     push_device(
-        text,
+        &mut text,
         design.strip.width,
         design.strip.rows,
         arch.tracks,
         arch.lut_size,
     )?;
-    push_blocks(alloc, text, design)?;
-    push_globals(alloc, text, design)?;
-    push_nets(alloc, text, design.layout.nets())
+    push_blocks(alloc, &mut text, design)?;
+    push_globals(alloc, &mut text, design)?;
+    push_nets(alloc, &mut text, design.layout.nets())?;
+    Ok(text)
 }
 
 /// Appends the lines of all blocks.

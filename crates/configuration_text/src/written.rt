@@ -28,21 +28,10 @@ pub fn write_configuration<W: Sink>(
         (configuration_text design.entry.netlist.now design.entry.circuit.now
         design.entry.arch.now design.entry.strip design.entry.layout.now) result }
 {
-    match configuration_text(alloc, design) {
-        Ok(text) => {
-            let written = write_text(text.as_slice(), sink);
-            drop(text);
-            written
-        }
-        Err(_) => Err(Unwritten::NoMemory),
-    }
-}
-
-/// Writes the text.
-fn write_text<W: Sink>(text: &[u8], sink: &mut W) -> Result<(), Unwritten>
-    ensures { IsWritten W.contents W.has_failed sink.old sink.new text.now result }
-{
-    match write_all(sink, text) {
+    let Ok(text) = configuration_text(alloc, design) else {
+        return Err(Unwritten::NoMemory);
+    };
+    match write_all(sink, text.as_slice()) {
         Ok(()) => Ok(()),
         Err(_) => Err(Unwritten::SinkFailed),
     }

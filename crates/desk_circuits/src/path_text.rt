@@ -32,9 +32,7 @@ pub fn write_path_stops<W: Sink>(
     let Ok(strip) = strip_of(alloc, texts) else {
         return Ok(());
     };
-    let written = write_stops_on(alloc, &strip, circuit, path, writer);
-    drop(strip);
-    written
+    write_stops_on(alloc, &strip, circuit, path, writer)
 }
 
 /// Writes the stops of a path over that strip. Writes nothing if memory runs out.
@@ -49,11 +47,7 @@ fn write_stops_on<W: Sink>(
         × Writes W.contents W.has_failed writer.old writer.new text result }
 {
     match stops_on(alloc, strip, circuit, path) {
-        Ok(stops) => {
-            let written = write_stops(writer, strip, circuit, &stops);
-            drop(stops);
-            written
-        }
+        Ok(stops) => write_stops(writer, strip, circuit, &stops),
         Err(_) => Ok(()),
     }
 }

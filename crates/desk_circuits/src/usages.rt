@@ -73,9 +73,7 @@ fn write_account<W: Sink>(
         × Writes W.contents W.has_failed writer.old writer.new text result }
 {
     let circuit = present_circuit(alloc, account.files);
-    let written = write_text(is_table, account, &circuit, writer);
-    drop(circuit);
-    written
+    write_text(is_table, account, &circuit, writer)
 }
 
 /// Prints the row or the lines of a name, with this circuit.

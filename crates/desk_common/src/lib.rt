@@ -29,5 +29,6 @@ pub use paths::{
 pub use reply_words::{NetlistSource, tell_reply, told_refused};
 pub use streams::{print_text, read_input};
 pub use words::{
-    ARCH, COLUMNS, EFFORT, FOLDER, GIVEN_TRACKS, NO_DEVICE, ROWS, SEED, TRACKS, number_in,
+    ALONE, ARCH, COLUMNS, EFFORT, FILE, FLAG, FOLDER, GIVEN_TRACKS, NO_DEVICE, ROWS, SEED, TRACKS,
+    number_in,
 };

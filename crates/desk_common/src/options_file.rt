@@ -4,9 +4,10 @@ ghost use Rattle.std.specs.Prelude.{◌<◌, ◌^◌, length};
 
 use crate::file_lines::write_line;
 use crate::outcome::Outcome;
+use crate::words::FILE;
 use device_file::{DeviceFileError, DeviceFileFault, FaultKind, OptionValue, read_device_file};
 use line_text::{Failed, Sink};
-use option_words::{OptionWord, Takes};
+use option_words::OptionWord;
 use std::alloc::{AllocError, Global};
 use std::convert::AsStr;
 use text_parts::{Part, write_parts};
@@ -14,10 +15,8 @@ use text_parts::{Part, write_parts};
 /// The option that names the file, for the help of tools that take a device's options.
 pub const DEVICE: OptionWord = OptionWord {
     name: "device",
-    value_name: "FILE",
     help: "Takes the options of the device from FILE; options on the command line come first, and a path in FILE is relative to the working folder",
-    takes: Takes::Text,
-    default: None,
+    ..FILE
 };
 
 /// The most bytes of a device file that are read: one more than it may have.

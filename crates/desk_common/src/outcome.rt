@@ -7,6 +7,7 @@ use arch_file::ArchFault;
 use device_lines::InputFault;
 use layout_files::LayoutFault;
 use line_text::{Failed, ReadError};
+use std::alloc::AllocError;
 use std::fmt;
 use strip_files::FileFault;
 use tenancy_script::ScriptFault;
@@ -108,6 +109,17 @@ impl Outcome {
             Ok(()) => Outcome::Done,
             Err(_) => Outcome::OutputFailed,
         }
+    }
+}
+
+impl From<AllocError> for Outcome {
+    ghost use Rattle.std.specs.Prelude.{◌≡◌};
+    ghost use Rattle.desk_common.specs.declared.outcome.Outcome.TheVariants.{NoMemory};
+
+    ghost from_gives = { λ _ outcome. outcome ≡ NoMemory };
+
+    fn from(_error: AllocError) -> Self {
+        Outcome::NoMemory
     }
 }
 

@@ -7,6 +7,28 @@ use option_words::{Given, OptionWord, Takes};
 /// Why numbers are refused that are not the sizes of a device.
 pub const NO_DEVICE: &str = "a size is out of range";
 
+/// An option that is given or not. Each one has a name and a help of its own.
+pub const FLAG: OptionWord = OptionWord {
+    name: "",
+    value_name: "",
+    help: "",
+    takes: Takes::Nothing,
+    default: None,
+};
+
+/// An option with the path of a file.
+pub const FILE: OptionWord = OptionWord {
+    value_name: "FILE",
+    takes: Takes::Text,
+    ..FLAG
+};
+
+/// A text that is given without a name of an option.
+pub const ALONE: OptionWord = OptionWord {
+    takes: Takes::Alone,
+    ..FLAG
+};
+
 /// The architecture.
 pub const ARCH: OptionWord = OptionWord {
     name: "arch",
@@ -72,8 +94,7 @@ pub const FOLDER: OptionWord = OptionWord {
     name: "folder",
     value_name: "FOLDER",
     help: "The folder for the files; it is created if it does not exist",
-    takes: Takes::Alone,
-    default: None,
+    ..ALONE
 };
 
 /// The value of an option with a number, if it is given.

@@ -1,5 +1,5 @@
 -- The second line of a `.place` file.
-use Rattle.desk_layouts.proofs.Prelude.{◌≡◌, ◌∙◌, ℕ, suc, ◌+◌, ◌^◌, ◌<◌, ◌==◌, ◌&&◌, Bool, true, not, List, [], ◌∷◌, ◌++◌, length, map, drop, refl, ap, sym, codes, decimal, append_assoc, arith, after_first, before_first, enumerate_from, list_all, position_or_len, and_from, and_parts, nat_tests, list_all-append, Circuit, Strip, Layout, place_heading, place_parts, IsPlain, is_word_end, place_line, place_text, is_digit, first_line, later_lines, before, digits_told, end_at, size_line, text_of}
+use Rattle.desk_layouts.proofs.Prelude.{◌≡◌, ◌∙◌, ℕ, suc, ◌+◌, ◌^◌, ◌<◌, ◌==◌, true, not, List, [], ◌∷◌, ◌++◌, length, map, drop, refl, ap, sym, codes, decimal, append_assoc, arith, enumerate_from, list_all, position_or_len, and_from, and_parts, nat_tests, list_all-append, Circuit, Strip, Layout, place_heading, place_parts, IsPlain, is_word_end, place_line, place_text, is_digit, first_line, later_lines, before, digits_told, end_at, size_line, text_of}
 
 -- no byte ends a line
 abbrev IsOneLine : List ℕ → Type 0

@@ -1,5 +1,5 @@
 -- Files that are refused.
-use Rattle.desk_layouts.proofs.Prelude.{◌≡◌, ◌∙◌, ◌≤◌, ◌⊎◌, inl, inr, ℕ, Bool, true, List, Option, Some, None, Result, Ok, Err, IfErr, IsErrAnd, refl, ap, sym, subst, arith, arch_of, Arch, circuit_of, Strip, Outcome, ArchRefused, FileFailed, LayoutRefused, NetlistRefused, NoMemory, OtherCircuit, OutputFailed, FileRole, Architecture, Netlist, Net, Places, Routes, Verilog, IsReadFrom, Texts, strip_of, CanBeFiled, IsImplemented, LaidCircuit, StripShape, ArePlacesOn, IsAskedShape, IsOnlyShape, AreRead, IsLaidIn, texts_with, IsUnwritten, IsUnwrittenOr, AreReadAndRefused, AreRefused, HasFailed, IsFailure, IsRefusal, IsRefusalOf, IsUnread, GivenFiles, LayoutPaths}
+use Rattle.desk_layouts.proofs.Prelude.{◌≡◌, ◌∙◌, inl, inr, ℕ, Bool, List, Option, Result, Ok, Err, IfErr, IsErrAnd, refl, ap, sym, subst, arch_of, Arch, circuit_of, Strip, Outcome, ArchRefused, FileFailed, LayoutRefused, NetlistRefused, NoMemory, OtherCircuit, OutputFailed, FileRole, Architecture, Netlist, Net, Places, Routes, Verilog, IsReadFrom, CanBeFiled, IsImplemented, LaidCircuit, StripShape, ArePlacesOn, IsAskedShape, IsOnlyShape, AreRead, IsLaidIn, texts_with, IsUnwritten, IsUnwrittenOr, AreRefused, HasFailed, IsFailure, IsRefusal, IsRefusalOf, IsUnread, GivenFiles, LayoutPaths}
 
 same_strip : (columns columns' rows rows' pads : ℕ) → columns ≡ columns' → rows ≡ rows' → ◌≡◌ {A = Strip} (record { width = columns; rows = rows; io_rat = pads }) (record { width = columns'; rows = rows'; io_rat = pads })
 same_strip columns columns' rows rows' pads e f = rw (e, f) refl

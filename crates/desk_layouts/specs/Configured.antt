@@ -1,6 +1,6 @@
 -- What a device is loaded with.
 use Rattle.std.specs.Prelude.{ℕ, ◌≡◌, ◌⊎◌, Bool, true, List, Contains, Option, Ok, ⊤}
-use Rattle.desk_layouts.specs.Prelude.{JoinedLine, lines_of, LookupTable, holds_table, traced_ble, configuration_of, configuration_text, ConfigurationLine, AreBlesApart, Configures, HasOneDriver, HasValues, Spot, LaidCircuit, Outcome, FileFailed, NoMemory, OutputFailed, FileRole, Verilog}
+use Rattle.desk_layouts.specs.Prelude.{JoinedLine, lines_of, LookupTable, holds_table, traced_ble, configuration_of, configuration_text, ConfigurationLine, AreBlesApart, Configures, HasOneDriver, HasValues, Spot, LaidCircuit, Outcome, FileFailed, NoMemory, OutputFailed, Verilog}
 use Rattle.desk_layouts.specs.Checked.{AreRead, IsLaidIn}
 use Rattle.desk_layouts.specs.Refused.{IsRefusal}
 use Rattle.desk_layouts.specs.declared.given_files.GivenFiles.{GivenFiles}

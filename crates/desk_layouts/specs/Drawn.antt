@@ -68,17 +68,13 @@ pub record Implement (tracks : ℕ) (arch netlist : List ℕ) (bytes : StripByte
   pub read : IsReadFrom (texts_on shape arch netlist bytes) laid
   pub implemented : IsImplemented laid
 
--- private: the netlist is that of the file
-pub record ImplementOn (text : List ℕ → Option (List ℕ)) (against : Against) (arch : List ℕ) (bytes : StripBytes) : Type 0 where
-  pub netlist : List ℕ
-  pub is_read : IsBeginning (text against.netlist.now) MAX_READ netlist
-  pub implement : Implement against.tracks arch netlist bytes
-
 -- the bytes implement the netlist of that file, on the architecture of the other one
 pub record AreChecked (text : List ℕ → Option (List ℕ)) (against : Against) (bytes : StripBytes) : Type 0 where
   pub arch : List ℕ
-  pub is_read : IsBeginning (text against.arch.now) MAX_READ arch
-  pub implement : ImplementOn text against arch bytes
+  pub is_arch : IsBeginning (text against.arch.now) MAX_READ arch
+  pub netlist : List ℕ
+  pub is_netlist : IsBeginning (text against.netlist.now) MAX_READ netlist
+  pub implement : Implement against.tracks arch netlist bytes
 
 -- the three texts are refused, or memory ran out
 abbrev pub IsRefusedStrip : Outcome → Type 0
@@ -134,22 +130,14 @@ module _ {S : Type 0} (contents : S → Option (List ℕ)) (has_failed : S → B
   abbrev pub IsCheckedAndShown : (List ℕ → Option (List ℕ)) → StripWishes → StripBytes → Type 0
   IsCheckedAndShown text wishes bytes = IfSome wishes.against (λ against. AreChecked text against bytes) × IsShown wishes.shown bytes
 
-  -- private: what is drawn of this packing and these places
-  pub record IsPlacedDrawn (text : List ℕ → Option (List ℕ)) (wishes : StripWishes) (net place : List ℕ) : Type 0 where
-    pub bytes : StripBytes
-    pub are : AreBytes text wishes net place bytes
-    pub checked : IfSome wishes.against (λ against. AreChecked text against bytes)
-    pub shown : IsShown wishes.shown bytes
-
-  -- private: what is drawn of this packing
-  pub record IsPackedDrawn (text : List ℕ → Option (List ℕ)) (wishes : StripWishes) (net : List ℕ) : Type 0 where
-    pub place : List ℕ
-    pub is_read : IsBeginning (text wishes.place_file.now) (2 ^ 64 - 1) place
-    pub drawn : IsPlacedDrawn text wishes net place
-
   -- The files of a tenancy are read and drawn. If a netlist is given, they are drawn only if they
   -- are the print of a layout that implements it.
   pub record IsDrawn (text : List ℕ → Option (List ℕ)) (wishes : StripWishes) : Type 0 where
     pub net : List ℕ
-    pub is_read : IsBeginning (text wishes.net_file.now) (2 ^ 64 - 1) net
-    pub drawn : IsPackedDrawn text wishes net
+    pub is_net : IsBeginning (text wishes.net_file.now) (2 ^ 64 - 1) net
+    pub place : List ℕ
+    pub is_place : IsBeginning (text wishes.place_file.now) (2 ^ 64 - 1) place
+    pub bytes : StripBytes
+    pub are : AreBytes text wishes net place bytes
+    pub checked : IfSome wishes.against (λ against. AreChecked text against bytes)
+    pub shown : IsShown wishes.shown bytes

@@ -83,9 +83,7 @@ pub fn run<F: FileTexts + AllocGlobal, W: Sink, E: Sink>(
         (W.has_failed writer.new) wishes.entry.paths) }
 {
     let given = GivenFiles::read(files, wishes.paths, teller)?;
-    let printed = print_checked(files, wishes, &given, writer, teller);
-    drop(given);
-    printed
+    print_checked(files, wishes, &given, writer, teller)
 }
 
 /// Prints the configuration of the layout whose files have these bytes, if it implements the
@@ -133,11 +131,7 @@ fn print_laid<F: FileTexts + AllocGlobal, W: Sink, E: Sink>(
         return Err(Outcome::NoMemory);
     }
     match logical_lines(files.alloc(), netlist) {
-        Ok(lines) => {
-            let printed = print_lines(files, verilog, &lines, laid, writer, teller);
-            drop(lines);
-            printed
-        }
+        Ok(lines) => print_lines(files, verilog, &lines, laid, writer, teller),
         Err(_) => Err(Outcome::NoMemory),
     }
 }

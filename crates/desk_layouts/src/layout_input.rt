@@ -4,7 +4,7 @@ ghost use Rattle.desk_layouts.specs.Asked.{IsAskedFor, IsAskedShape, IsOnlyShape
 ghost use Rattle.std.specs.Option.{option_map_or};
 ghost use Rattle.desk_layouts.specs.Prelude.{text_of};
 
-use desk_common::{ARCH, DEVICE, GIVEN_TRACKS, NO_DEVICE, number_in};
+use desk_common::{ALONE, ARCH, DEVICE, GIVEN_TRACKS, NO_DEVICE, number_in};
 use layout_verdict::StripShape;
 use line_text::split_line;
 use option_words::{Given, OptionWord, Takes};
@@ -37,8 +37,7 @@ pub(crate) const NETLIST: OptionWord = OptionWord {
     name: "netlist",
     value_name: "NETLIST",
     help: "The netlist, in BLIF",
-    takes: Takes::Alone,
-    default: None,
+    ..ALONE
 };
 
 /// The first of its three files.
@@ -46,8 +45,7 @@ pub(crate) const PACKING: OptionWord = OptionWord {
     name: "packing",
     value_name: "NET_FILE",
     help: "The .net file",
-    takes: Takes::Alone,
-    default: None,
+    ..ALONE
 };
 
 /// The second one.
@@ -55,8 +53,7 @@ pub(crate) const PLACES: OptionWord = OptionWord {
     name: "places",
     value_name: "PLACE_FILE",
     help: "The .place file",
-    takes: Takes::Alone,
-    default: None,
+    ..ALONE
 };
 
 /// The third one.
@@ -64,8 +61,7 @@ pub(crate) const ROUTES: OptionWord = OptionWord {
     name: "routes",
     value_name: "ROUTE_FILE",
     help: "The .route file",
-    takes: Takes::Alone,
-    default: None,
+    ..ALONE
 };
 
 /// The options of a tool that reads a layout.

@@ -1,6 +1,6 @@
 //! The tool that draws one tenancy.
 ghost use Rattle.std.specs.Prelude.{IfOk, IfSome, OnErr, OnOk};
-ghost use Rattle.desk_layouts.specs.Drawn.{IsCheckedAndShown, IsDrawn, IsPackedDrawn, IsPlacedDrawn, IsShown, IsThere, bytes_of, without_nets};
+ghost use Rattle.desk_layouts.specs.Drawn.{IsCheckedAndShown, IsDrawn, IsShown, IsThere, bytes_of, without_nets};
 ghost use Rattle.desk_layouts.specs.StripAsked.{IsFullAskedFor, IsShownAskedFor, IsStripAskedFor};
 
 use crate::strip_check::{against_of, check_against};
@@ -9,7 +9,7 @@ use crate::strip_wishes::Shown;
 pub use crate::strip_wishes::StripWishes;
 use crate::without_routes::{no_routes, without_nets};
 use arch_file::MAX_TRACKS;
-use desk_common::{DEVICE, FileRole, FileTexts, NO_DEVICE, Outcome};
+use desk_common::{ALONE, DEVICE, FILE, FLAG, FileRole, FileTexts, NO_DEVICE, Outcome, TRACKS};
 use line_text::{Sink, TextError, split_line};
 use option_words::{Given, OptionWord, Program, Takes};
 use std::alloc::{AllocError, Global};
@@ -44,22 +44,19 @@ Example: fpgad_desk strip T.net T.place T.route --heat > t.svg",
             name: "packing",
             value_name: "NET_FILE",
             help: "The .net file",
-            takes: Takes::Alone,
-            default: None,
+            ..ALONE
         },
         OptionWord {
             name: "places",
             value_name: "PLACE_FILE",
             help: "The .place file",
-            takes: Takes::Alone,
-            default: None,
+            ..ALONE
         },
         OptionWord {
             name: "routes",
             value_name: "ROUTE_FILE",
             help: "The .route file, or - if there is none: then the blocks are drawn without routes",
-            takes: Takes::Alone,
-            default: None,
+            ..ALONE
         },
         OptionWord {
             name: "net",
@@ -70,39 +67,29 @@ Example: fpgad_desk strip T.net T.place T.route --heat > t.svg",
         },
         OptionWord {
             name: "heat",
-            value_name: "",
             help: "Draws how many tracks of each channel are used",
-            takes: Takes::Nothing,
-            default: None,
+            ..FLAG
         },
         OptionWord {
-            name: "tracks",
-            value_name: "W",
             help: "For --heat and --netlist: the tracks of each channel, 1 to 64",
-            takes: Takes::Number(1, 64),
             default: None,
+            ..TRACKS
         },
         OptionWord {
             name: "netlist",
-            value_name: "FILE",
             help: "Checks the layout first against this netlist, as `fpgad_desk check` does",
-            takes: Takes::Text,
-            default: None,
+            ..FILE
         },
         OptionWord {
             name: "arch",
-            value_name: "FILE",
             help: "For --netlist: the architecture",
-            takes: Takes::Text,
-            default: None,
+            ..FILE
         },
         DEVICE,
         OptionWord {
             name: "page",
-            value_name: "",
             help: "Prints one HTML file for a browser, with search, zoom and clicks, in place of the SVG",
-            takes: Takes::Nothing,
-            default: None,
+            ..FLAG
         },
     ],
 };
@@ -168,48 +155,23 @@ pub fn print<F: FileTexts + AllocGlobal, W: Sink, E: Sink>(
         (F.text files.now) wishes.entry) }
 {
     let net = files.read_text(FileRole::Net, wishes.net_file, u64::MAX, teller)?;
-    print_packed(files, wishes, net.as_slice(), writer, teller)
-}
-
-/// Draws a tenancy from the text of its packing and its other files.
-fn print_packed<F: FileTexts + AllocGlobal, W: Sink, E: Sink>(
-    files: &F,
-    wishes: StripWishes<'_>,
-    net: &[u8],
-    writer: &mut W,
-    teller: &mut E,
-) -> Result<(), Outcome>
-    ensures { OnOk result (IsPackedDrawn W.contents W.has_failed writer.old writer.new
-        (F.text files.now) wishes.entry net.now) }
-{
     let place = files.read_text(FileRole::Places, wishes.place_file, u64::MAX, teller)?;
-    print_placed(files, wishes, net, place.as_slice(), writer, teller)
-}
-
-/// Draws a tenancy from the texts of its packing and placement and the file of its routes.
-fn print_placed<F: FileTexts + AllocGlobal, W: Sink, E: Sink>(
-    files: &F,
-    wishes: StripWishes<'_>,
-    net: &[u8],
-    place: &[u8],
-    writer: &mut W,
-    teller: &mut E,
-) -> Result<(), Outcome>
-    ensures { OnOk result (IsPlacedDrawn W.contents W.has_failed writer.old writer.new
-        (F.text files.now) wishes.entry net.now place.now) }
-{
     if wishes.route_file == NONE {
-        return print_unrouted(files.alloc(), wishes, net, place, writer);
+        return print_unrouted(
+            files.alloc(),
+            wishes,
+            net.as_slice(),
+            place.as_slice(),
+            writer,
+        );
     }
     let route = files.read_text(FileRole::Routes, wishes.route_file, u64::MAX, teller)?;
     let texts = StripTexts {
-        net,
-        place,
+        net: net.as_slice(),
+        place: place.as_slice(),
         route: route.as_slice(),
     };
-    let outcome = checked_and_drawn(files, wishes, texts, writer, teller);
-    drop(route);
-    outcome
+    checked_and_drawn(files, wishes, texts, writer, teller)
 }
 
 /// Draws a tenancy from the texts of its files. If a netlist is given, it is checked first.
@@ -241,9 +203,7 @@ fn print_unrouted<W: Sink>(
         (without_nets net.now place.now)) }
 {
     let route = no_routes(alloc, place)?;
-    let Ok(net) = without_nets(alloc, net) else {
-        return Err(Outcome::NoMemory);
-    };
+    let net = without_nets(alloc, net)?;
     let texts = StripTexts {
         net: net.as_slice(),
         place,
@@ -283,10 +243,8 @@ fn drawn_net<W: Sink>(
     net: usize,
     writer: &mut W,
 ) -> Result<(), Outcome> {
-    match global_ends(alloc, route, net) {
-        Ok(ends) => { drawing_outcome(draw_with_ends(alloc, strip, View::Net(net), &ends, writer)) }
-        Err(_) => Err(Outcome::NoMemory),
-    }
+    let ends = global_ends(alloc, route, net)?;
+    drawing_outcome(draw_with_ends(alloc, strip, View::Net(net), &ends, writer))
 }
 
 /// The numbers of the blocks that the text of a `.route` file lists for the net of that number, the

@@ -1,7 +1,7 @@
 //! The check of a layout against its netlist, before it is drawn.
 ghost use Rattle.std.specs.Prelude.{Option, IfOk, OnErr, OnOk};
 ghost use Rattle.desk_layouts.specs.Prelude.{IsBeginning};
-ghost use Rattle.desk_layouts.specs.Drawn.{AreChecked, Implement, ImplementOn, IsRefusedStrip, bytes_of};
+ghost use Rattle.desk_layouts.specs.Drawn.{AreChecked, IsRefusedStrip, bytes_of};
 ghost use Rattle.desk_layouts.specs.StripAsked.{IsCheckAskedFor};
 
 use crate::given_files::MAX_READ;
@@ -51,8 +51,8 @@ pub(crate) fn against_of<'a>(given: &Given<'a>) -> Result<Option<Against<'a>>, &
     }))
 }
 
-/// Checks the layout with these files against the netlist, as `fpgad_desk check` does. What is
-/// wrong is written to the teller.
+/// Checks the layout with these files against the netlist, as `fpgad_desk check` does, on a strip
+/// of the size in the `.place` file. What is wrong is written to the teller.
 pub(crate) fn check_against<F: FileTexts + AllocGlobal, E: Sink>(
     files: &F,
     against: Against<'_>,
@@ -62,63 +62,22 @@ pub(crate) fn check_against<F: FileTexts + AllocGlobal, E: Sink>(
     ensures { OnOk result (AreChecked (F.text files.now) against.entry (bytes_of texts.entry)) }
 {
     let arch = files.read_text(FileRole::Architecture, against.arch, MAX_READ, teller)?;
-    check_on(files, against, arch.as_slice(), texts, teller)
-}
-
-/// Checks the layout on an architecture with this text.
-fn check_on<F: FileTexts + AllocGlobal, E: Sink>(
-    files: &F,
-    against: Against<'_>,
-    arch: &[u8],
-    texts: StripTexts<'_>,
-    teller: &mut E,
-) -> Result<(), Outcome>
-    ensures { OnOk result (ImplementOn (F.text files.now) against.entry arch.now
-        (bytes_of texts.entry)) }
-{
     let netlist = files.read_text(FileRole::Netlist, against.netlist, MAX_READ, teller)?;
-    check_texts(
-        files.alloc(),
-        against,
-        arch,
-        netlist.as_slice(),
-        texts,
-        teller,
-    )
-}
-
-/// Checks the layout against the netlist with this text, on a strip of the size in the `.place`
-/// file.
-fn check_texts<E: Sink>(
-    alloc: Global,
-    against: Against<'_>,
-    arch: &[u8],
-    netlist: &[u8],
-    files: StripTexts<'_>,
-    teller: &mut E,
-) -> Result<(), Outcome>
-    ensures { OnOk result (Implement against.entry.tracks arch.now netlist.now
-        (bytes_of files.entry)) }
-{
-    let Some(size) = size_in_places(files.place) else {
-        return Err(outcome_without_size(alloc, files));
+    let alloc = files.alloc();
+    let Some(size) = size_in_places(texts.place) else {
+        return Err(outcome_without_size(alloc, texts));
     };
     let Some(shape) = StripShape::new(size.columns, size.rows, against.tracks) else {
         return Err(Outcome::NoMemory);
     };
-    let texts = LayoutTexts::new(shape, arch, netlist, files);
+    let layout = LayoutTexts::new(shape, arch.as_slice(), netlist.as_slice(), texts);
     let source = NetlistSource {
         path: against.netlist,
-        text: netlist,
-        arch,
+        text: netlist.as_slice(),
+        arch: arch.as_slice(),
     };
-    match laid_circuit(alloc, against.arch, source, &texts, teller) {
-        Ok(laid) => {
-            drop(laid);
-            Ok(())
-        }
-        Err(outcome) => Err(outcome),
-    }
+    laid_circuit(alloc, against.arch, source, &layout, teller)?;
+    Ok(())
 }
 
 /// How the errand ends with a `.place` file without a size: it is refused as it is by the drawing.

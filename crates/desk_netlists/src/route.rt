@@ -244,10 +244,7 @@ fn netlist_of<F: FileTexts + AllocGlobal, E: Sink>(
     warn_of_netlist(files.alloc(), netlist.as_slice(), teller);
     match SharedText::new(files.alloc(), Text::new(netlist)) {
         Ok(netlist) => Ok(netlist),
-        Err(refused) => {
-            drop(refused);
-            Err(Outcome::NoMemory)
-        }
+        Err(_) => Err(Outcome::NoMemory),
     }
 }
 

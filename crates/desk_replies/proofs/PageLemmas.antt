@@ -1,5 +1,5 @@
 -- Texts of a page that are written one after another.
-use Rattle.desk_replies.proofs.Prelude.{◌≡◌, ◌∙◌, ℕ, ◌+◌, ◌<◌, ◌≤◌, Bool, List, [], ◌++◌, length, take, Option, Some, None, Result, Ok, Err, inl, inr, refl, ap, subst, arith, codes, true, false, if◌then◌else◌, flat_map, slice_get, option_map_or, OnOk, is_ok, false≢true, slice_get_cases, IsEmptyOr, ShowsPresentStops, all_loop, all_same, all_then, part_loop, part_same, TakesAll, TakesPart, Writes, Failed, element_text, Viewer, AnsweredLine, NameAccount, accounts_of, ToldLine, Act, IsOveruse, AreAround, AreItemsOf, AreScriptTexts, AreTexts, IsItem, IsItemIf, IsPageWith, device_text, file_item, file_items, script_items, sink_text, text_items, LastStates, is_unrouted, AreTextsOf, WritesSome, Lines, SharedDevice, PageTexts, PageWishes}
+use Rattle.desk_replies.proofs.Prelude.{AreLinesOf, IsPage, IsPageShown, ◌-◌, ◌^◌, IsBeginning, IfOk, Outcome, ◌≡◌, ◌∙◌, ℕ, ◌+◌, ◌<◌, ◌≤◌, Bool, List, [], ◌++◌, length, take, Option, Some, None, Result, Ok, Err, inl, inr, refl, ap, subst, arith, codes, true, false, if◌then◌else◌, flat_map, slice_get, option_map_or, OnOk, is_ok, false≢true, slice_get_cases, IsEmptyOr, ShowsPresentStops, all_loop, all_same, all_then, part_loop, part_same, TakesAll, TakesPart, Writes, Failed, element_text, Viewer, NameAccount, ToldLine, AreAround, AreItemsOf, AreTexts, IsItem, IsItemIf, device_text, file_item, file_items, script_items, sink_text, text_items, LastStates, is_unrouted, AreTextsOf, WritesSome, Lines, PageTexts, PageWishes}
 
 -- the texts at a place of a list, if it has that place
 pub more_at : {S X : Type 0} {contents : S → Option (List ℕ)} {has_failed : S → Bool} {a b c : S} (f : X → List ℕ) (xs : List X) (i : ℕ) → i < length xs → TakesAll contents has_failed a b (flat_map f (take i xs)) →
@@ -62,11 +62,14 @@ pub items_same : (wishes : PageWishes) (told : List ToldLine) (last : LastStates
 items_same wishes told last texts are device =
     λ k. element_text (codes "lines") [] (are.0 k) ++ (element_text (codes "refused") [] (are.1 k) ++ (element_text (codes "states") [] (are.2 k) ++ element_text (codes "device") [] (device k)))
 
-pub page_with : {S : Type 0} {contents : S → Option (List ℕ)} {has_failed : S → Bool} {a b : S} (wishes : PageWishes) (lines : Lines) (device : Option SharedDevice) (acts : List (Act (List ℕ))) (replies : List AnsweredLine) (last : LastStates) (texts : PageTexts) → AreScriptTexts lines replies last texts →
-    sink_text texts.device ≡ device_text wishes → AreAround contents has_failed a b (IsOveruse device acts replies) (text_items texts) last (accounts_of acts replies) → IsPageWith contents has_failed a b wishes lines device acts replies last
-page_with {contents = contents} {has_failed = has_failed} {a = a} {b = b} wishes lines device acts replies last texts script sizes around = record {
-  told = script.0;
-  refused = script.1;
-  are_told = script.2;
-  shown = subst (λ (items : List ℕ). AreAround contents has_failed a b (IsOveruse device acts replies) items last (accounts_of acts replies)) (items_same wishes script.0 last texts script.3 sizes) around;
-}
+-- the page of a script whose lines are these
+pub page_shown : {S : Type 0} (contents : S → Option (List ℕ)) (has_failed : S → Bool) (a b : S) (text : List ℕ → Option (List ℕ)) (input : Option (List ℕ)) (wishes : PageWishes) (script : List ℕ) (lines : Lines) (r : Result (Unit {0}) Outcome) → IsBeginning (text wishes.script.now) (2 ^ 64 - 1) script →
+    IfOk r (λ _. IsPage contents has_failed a b input wishes lines) → AreLinesOf text wishes.arch script lines → IfOk r (λ _. IsPageShown contents has_failed a b text input wishes)
+page_shown contents has_failed a b text input wishes script lines (Ok u) read page are = record { script = script; read = read; lines = lines; are_lines = are; page = page }
+page_shown contents has_failed a b text input wishes script lines (Err outcome) read page are = tt
+
+-- the viewer around equal texts and accounts
+pub around_as : {S : Type 0} {contents : S → Option (List ℕ)} {has_failed : S → Bool} {a b : S} (overuse : List ℕ → List ℕ → Type 0) (texts items : List ℕ) (last : LastStates) (accounts all : List NameAccount) → texts ≡ items → accounts ≡ all →
+    AreAround contents has_failed a b overuse texts last accounts → AreAround contents has_failed a b overuse items last all
+around_as {contents = contents} {has_failed = has_failed} {a = a} {b = b} overuse texts items last accounts all e k around =
+    subst (λ (texts : List ℕ). AreAround contents has_failed a b overuse texts last all) e (subst (AreAround contents has_failed a b overuse texts last) k around)

@@ -1,7 +1,5 @@
 -- Texts of longest paths, and what is written around them.
-use Rattle.desk_replies.proofs.Prelude.{◌≡◌, ℕ, Bool, true, List, ◌++◌, Option, Some, None, Result, Ok, Err, refl, OnOk, Outcome, TenancyUse, report_text, Report, all_then, TakesAll, Failed, AnsweredLine, NameAccount, accounts_of, replies_in, script_of, Act, IsOveruseOf, IsOfAccount, ShowsPath, ShowsPaths, account_of, path_text, ArePathsShown, IsShownBy, AreTextsOf, WritesSome, ReportForm, SharedDevice}
-use Rattle.std.specs.Prelude.{IfOk}
-use Rattle.desk_replies.specs.Reported.{IsShown}
+use Rattle.desk_replies.proofs.Prelude.{ℕ, Bool, List, Option, Some, None, Result, Ok, Err, refl, OnOk, TenancyUse, report_text, Report, all_then, TakesAll, Failed, NameAccount, IsOfAccount, ShowsPath, ShowsPaths, account_of, path_text, ArePathsShown, AreTextsOf, WritesSome}
 
 -- no circuit is of each account
 circuit_unknown : (account : Option NameAccount) → IsOfAccount account None
@@ -16,14 +14,3 @@ pub told_written : {S : Type 0} (contents : S → Option (List ℕ)) (has_failed
     ShowsPaths accounts report paths → TakesAll contents has_failed b c paths → OnOk r (WritesSome contents has_failed c d (AreTextsOf IsOverused report.tenancies.items)) → OnOk r (ArePathsShown contents has_failed a d IsOverused accounts report)
 told_written contents has_failed a b c d IsOverused accounts report paths (Ok u) first shows second over = (paths, over.0, shows, over.1, all_then first (all_then second over.2))
 told_written contents has_failed a b c d IsOverused accounts report paths (Err failed) first shows second over = tt
-
--- a report by the acts of a script and their replies
-pub shown_by : {S : Type 0} (contents : S → Option (List ℕ)) (has_failed : S → Bool) (a b : S) (form : ReportForm) (printed : List ℕ) (device : Option SharedDevice) (number : ℕ) (script : List ℕ) (acts : List (Act (List ℕ))) (replies : List AnsweredLine) (report : Report) (r : Result (Unit {0}) Outcome) → script_of number script ≡ Ok acts →
-    replies_in acts printed ≡ Ok replies → IfOk r (λ _. IsShownBy contents has_failed a b (IsOveruseOf device acts replies) form (accounts_of acts replies) report) → IfOk r (λ _. IsShown contents has_failed a b form true printed report)
-shown_by contents has_failed a b form printed device number script acts replies report (Ok u) are told shown = (
-  accounts_of acts replies,
-  record { number = number; script = script; acts = acts; are_acts = are; replies = replies; are_replies = told; are_accounts = refl },
-  device,
-  shown,
-)
-shown_by contents has_failed a b form printed device number script acts replies report (Err failed) are told shown = tt

@@ -38,10 +38,6 @@ crowded_text name crowding = (name ++ codes " ") ++ crowding_text crowding
 abbrev pub changed_text : List ℕ → List ℕ
 changed_text name = name ++ codes " nodes left overused: not known, since its netlist was changed\n"
 
--- private: a text of the crowding of that request's routing, or nothing
-abbrev pub IsCrowdedBy : DevicePlan → Request → ℕ → List ℕ → List ℕ → Type 0
-IsCrowdedBy plan request tracks name text = (text ≡ []) ⊎ ((crowding : Crowding) × IsCrowdingWith plan request tracks (Some crowding) × (text ≡ crowded_text name crowding))
-
 -- a text of the crowding of the routing that was asked for, or nothing
 abbrev pub IsCrowded : SharedDevice → Wish → List ℕ → List ℕ → Type 0
 IsCrowded device wish name text = (text ≡ []) ⊎ ((crowding : Crowding) × IsCrowdingFor device wish crowding × (text ≡ crowded_text name crowding))

@@ -111,45 +111,35 @@ module _ {S : Type 0} (contents : S → Option (List ℕ)) (has_failed : S → B
     pub are_names : AreTextsOf (AreItemsOf IsOveruseOf last) accounts names
     pub written : TakesAll contents has_failed old new (viewer.head.now ++ (texts ++ (names ++ viewer.tail.now)))
 
-  -- private: with these last states
-  pub record IsPageWith (wishes : PageWishes) (lines : Lines) (device : Option SharedDevice) (acts : List (Act (List ℕ))) (replies : List AnsweredLine) (last : LastStates) : Type 0 where
+  -- private: the page of these acts with their replies is written, for that device
+  pub record IsPageWith (wishes : PageWishes) (lines : Lines) (device : Option SharedDevice) (acts : List (Act (List ℕ))) (replies : List AnsweredLine) : Type 0 where
+    pub last : LastStates
+    pub are_last : AreLastStates acts replies last
     pub told : List ToldLine
     pub refused : ℕ
     pub are_told : AreTold lines replies told refused
     pub shown : AreAround (IsOveruse device acts replies) (script_items wishes told last) last (accounts_of acts replies)
 
-  -- private: those after the acts
-  abbrev pub IsPageAfter : PageWishes → Lines → Option SharedDevice → List (Act (List ℕ)) → List AnsweredLine → Type 0
-  IsPageAfter wishes lines device acts replies = (last : LastStates) × AreLastStates acts replies last × IsPageWith wishes lines device acts replies last
-
-  -- the page of these acts with their replies is written: the viewer around the items
-  pub record IsPage (wishes : PageWishes) (lines : Lines) (acts : List (Act (List ℕ))) (replies : List AnsweredLine) : Type 0 where
+  -- for the device that the wishes and the architecture say
+  pub record IsPageOfActs (wishes : PageWishes) (lines : Lines) (acts : List (Act (List ℕ))) (replies : List AnsweredLine) : Type 0 where
     pub device : Option SharedDevice
     pub is_device : IsDevice lines.architecture.now (number_in wishes.rows) (number_in wishes.tracks) device
-    pub page : IsPageAfter wishes lines device acts replies
+    pub page : IsPageWith wishes lines device acts replies
 
-  -- the acts are those of the lines, and the replies those that were printed for them
-  pub record IsPageOfText (wishes : PageWishes) (lines : Lines) (printed : List ℕ) : Type 0 where
+  -- the acts are those of the lines, and the replies those in the whole input, if that is known
+  pub record IsPage (input : Option (List ℕ)) (wishes : PageWishes) (lines : Lines) : Type 0 where
+    pub printed : List ℕ
+    pub are_printed : IfSome input (λ bytes. printed ≡ bytes)
     pub acts : List (Act (List ℕ))
     pub are_acts : script_of lines.number lines.text.now ≡ Ok acts
     pub replies : List AnsweredLine
     pub are_replies : replies_in acts printed ≡ Ok replies
-    pub page : IsPage wishes lines acts replies
-
-  -- the replies are the whole input, if that is known
-  pub record IsPageOfInput (input : Option (List ℕ)) (wishes : PageWishes) (lines : Lines) : Type 0 where
-    pub printed : List ℕ
-    pub are_printed : IfSome input (λ bytes. printed ≡ bytes)
-    pub page : IsPageOfText wishes lines printed
-
-  -- private: the lines are those of the script
-  pub record IsPageOfScript (text : List ℕ → Option (List ℕ)) (input : Option (List ℕ)) (wishes : PageWishes) (script : List ℕ) : Type 0 where
-    pub lines : Lines
-    pub are_lines : AreLinesOf text wishes.arch script lines
-    pub page : IsPageOfInput input wishes lines
+    pub page : IsPageOfActs wishes lines acts replies
 
   -- the page of the script in the file and of the replies in the input is written, and nothing else
   pub record IsPageShown (text : List ℕ → Option (List ℕ)) (input : Option (List ℕ)) (wishes : PageWishes) : Type 0 where
     pub script : List ℕ
     pub read : IsBeginning (text wishes.script.now) (2 ^ 64 - 1) script
-    pub page : IsPageOfScript text input wishes script
+    pub lines : Lines
+    pub are_lines : AreLinesOf text wishes.arch script lines
+    pub page : IsPage input wishes lines

@@ -64,14 +64,10 @@ module _ {S : Type 0} (contents : S → Option (List ℕ)) (has_failed : S → B
       (accounts : List NameAccount) × (are : AreAccountsOf printed accounts) × (device : Option SharedDevice) × IsShownBy (IsOveruseOf device are.acts are.replies) form accounts report
   IsShown form false printed report = IsShownAlone form report
 
-  -- a report of what the text prints is written
-  pub record IsReportShown (wishes : ReportWishes) (has_script : Bool) (printed : List ℕ) : Type 0 where
-    pub report : Report
-    pub of : IsReportOf wishes.size printed report
-    pub shown : IsShown wishes.form has_script printed report
-
-  -- that of what the whole input prints, if that is known
+  -- a report of what the whole input prints, if that is known, is written
   pub record IsReported (input : Option (List ℕ)) (wishes : ReportWishes) (has_script : Bool) : Type 0 where
     pub printed : List ℕ
     pub are_printed : IfSome input (λ bytes. printed ≡ bytes)
-    pub shown : IsReportShown wishes has_script printed
+    pub report : Report
+    pub of : IsReportOf wishes.size printed report
+    pub shown : IsShown wishes.form has_script printed report

@@ -17,35 +17,23 @@ pub record AreTold (lines : Lines) (replies : List AnsweredLine) (told : List To
   pub counted : refused ≡ count_by is_refused told
 
 module _ {S : Type 0} (contents : S → Option (List ℕ)) (has_failed : S → Bool) (before after : S) where
-  -- private: exactly the files with the lines of each name are written, and the lines are printed,
-  -- with what each name used
-  pub record AreRepliesSaved (job : FilesJob) (accounts : List NameAccount) (replies : List AnsweredLine) (refused : ℕ) (old new : Option (List NamedBytes)) : Type 0 where
-    pub told : List ToldLine
-    pub are_told : AreTold job.lines replies told refused
-    pub written : AreAdded old new (replies_files job.wishes.folder.now told replies)
-    pub printed : IsPrintedFor contents has_failed before after job.wishes.form accounts told refused
-
-  -- exactly the present files of the accounts are written, and the files with the lines of each
-  -- name; the lines are printed, with what each name used
+  -- private: exactly the present files of the accounts are written, and the files with the lines of
+  -- each name; the lines are printed, with what each name used
   pub record AreSaved (job : FilesJob) (accounts : List NameAccount) (replies : List AnsweredLine) (refused : ℕ) (old new : Option (List NamedBytes)) : Type 0 where
     pub told : List ToldLine
     pub are_told : AreTold job.lines replies told refused
     pub written : AreAdded old new (flat_map (files_of_name job.wishes.folder.now) accounts ++ replies_files job.wishes.folder.now told replies)
     pub printed : IsPrintedFor contents has_failed before after job.wishes.form accounts told refused
 
-  -- these files are those of the lines and the replies that were printed for them
-  pub record AreSavedFrom (job : FilesJob) (printed : List ℕ) (refused : ℕ) (old new : Option (List NamedBytes)) : Type 0 where
+  -- the acts are those of the lines, and the replies those in the whole input, if that is known
+  pub record ArePrinted (input : Option (List ℕ)) (job : FilesJob) (refused : ℕ) (old new : Option (List NamedBytes)) : Type 0 where
+    pub printed : List ℕ
+    pub are_printed : IfSome input (λ bytes. printed ≡ bytes)
     pub acts : List (Act (List ℕ))
     pub are_acts : script_of job.lines.number job.lines.text.now ≡ Ok acts
     pub replies : List AnsweredLine
     pub are_replies : replies_in acts printed ≡ Ok replies
     pub saved : AreSaved job (accounts_of acts replies) replies refused old new
-
-  -- the replies are the whole input, if that is known
-  pub record ArePrinted (input : Option (List ℕ)) (job : FilesJob) (refused : ℕ) (old new : Option (List NamedBytes)) : Type 0 where
-    pub printed : List ℕ
-    pub are_printed : IfSome input (λ bytes. printed ≡ bytes)
-    pub saved : AreSavedFrom job printed refused old new
 
   -- The script is that of the file, and its replies are the input: exactly the present files of
   -- each name are written under its name, and its lines with their replies; and what is printed is

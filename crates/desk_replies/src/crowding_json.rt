@@ -46,23 +46,10 @@ fn write_list(
         ++ json_tokens (list_of (map (node_json crowding.now.packed) nodes.now))) }
 {
     pen.open_list()?;
-    write_nodes(pen, crowding, nodes)?;
-    pen.close_list()
-}
-
-/// Writes these nodes, one after another.
-fn write_nodes(
-    pen: &mut JsonPen,
-    crowding: &Crowding,
-    nodes: &[CrowdedNode],
-) -> Result<(), AllocError>
-    ensures { OnOk result (pen.new ≡ pen.old
-        ++ flat_map (λ crowded. json_tokens (node_json crowding.now.packed crowded)) nodes.now) }
-{
     for crowded in nodes {
         write_node(pen, crowding, crowded)?;
     }
-    Ok(())
+    pen.close_list()
 }
 
 /// Writes a node and the nets on it.
@@ -117,17 +104,8 @@ fn write_net_list(pen: &mut JsonPen, crowding: &Crowding, nets: &[usize]) -> Res
         ++ json_tokens (list_of (map (net_json crowding.now.packed) nets.now))) }
 {
     pen.open_list()?;
-    write_nets(pen, crowding, nets)?;
-    pen.close_list()
-}
-
-/// Writes the names of these nets, one after another.
-fn write_nets(pen: &mut JsonPen, crowding: &Crowding, nets: &[usize]) -> Result<(), AllocError>
-    ensures { OnOk result (pen.new ≡ pen.old
-        ++ flat_map (λ net. json_tokens (net_json crowding.now.packed net)) nets.now) }
-{
     for net in nets {
         pen.scalar(Scalar::Name(crowding.net_name(*net)))?;
     }
-    Ok(())
+    pen.close_list()
 }

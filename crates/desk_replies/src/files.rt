@@ -4,7 +4,7 @@ ghost use Rattle.desk_replies.specs.Prelude.{AreAdded, account_now, accounts_of,
 ghost use Rattle.desk_replies.specs.Asked.{IsFilesAskedFor, IsFilesForm};
 ghost use Rattle.desk_replies.specs.Printed.{IsPrintedFor};
 ghost use Rattle.desk_replies.specs.Saved.{replies_files};
-ghost use Rattle.desk_replies.specs.Served.{ArePrinted, AreRepliesSaved, AreSaved, AreSavedFrom, AreServed};
+ghost use Rattle.desk_replies.specs.Served.{ArePrinted, AreSaved, AreServed};
 
 use crate::files_text::print_form;
 use crate::lines::Lines;
@@ -12,9 +12,11 @@ use crate::saved_accounts::save_files;
 use crate::script_input::{acts_of, lines_of, replies_of};
 use crate::tenants::save_replies;
 use desk_circuits::LineCounts;
-use desk_common::{DEVICE, FOLDER, FileOutputs, FileRole, FileTexts, Outcome, read_input};
+use desk_common::{
+    ALONE, DEVICE, FILE, FLAG, FOLDER, FileOutputs, FileRole, FileTexts, Outcome, read_input,
+};
 use line_text::{Sink, Source};
-use option_words::{Given, OptionWord, Program, Takes};
+use option_words::{Given, OptionWord, Program};
 use printed_replies::Replies;
 use script_replies::{Account, ToldLine, accounts_of, script_lines, told_lines};
 use script_text::Act;
@@ -44,31 +46,24 @@ Example: fpgad --arch my.arch --tracks 8 --columns 10 < my.script | fpgad_desk f
     options: &[
         OptionWord {
             name: "arch",
-            value_name: "FILE",
             help: "Give it if fpgad was run with --arch: the script then does not begin with the architecture",
-            takes: Takes::Text,
-            default: None,
+            ..FILE
         },
         OptionWord {
             name: "script",
             value_name: "SCRIPT",
             help: "The script",
-            takes: Takes::Alone,
-            default: None,
+            ..ALONE
         },
         OptionWord {
             name: "csv",
-            value_name: "",
             help: "Prints only what each name used, as a line of headings and a line for each name",
-            takes: Takes::Nothing,
-            default: None,
+            ..FLAG
         },
         OptionWord {
             name: "json",
-            value_name: "",
             help: "Prints only what each name used and how many lines were served, as one JSON object",
-            takes: Takes::Nothing,
-            default: None,
+            ..FLAG
         },
         DEVICE,
         FOLDER,
@@ -141,9 +136,7 @@ pub fn run<F: FileTexts + AllocGlobal, O: FileOutputs, R: Source, W: Sink, E: Si
         wishes,
         lines: lines_of(script.as_slice(), wishes.has_architecture),
     };
-    let outcome = run_on_lines(files.alloc(), outputs, job, reader, writer, teller);
-    drop(script);
-    outcome
+    run_on_lines(files.alloc(), outputs, job, reader, writer, teller)
 }
 
 /// Whose files are wanted, and the lines of the script.
@@ -166,7 +159,10 @@ fn run_on_lines<O: FileOutputs, R: Source, W: Sink, E: Sink>(
         (R.remaining reader.old) job.entry refused (O.written outputs.old) (O.written outputs.new)) }
 {
     let printed = read_input(alloc, reader)?;
-    run_on_texts(alloc, outputs, job, printed.as_slice(), writer, teller)
+    let script = acts_of(alloc, job.lines)?;
+    let acts = script.as_slice();
+    let replies = replies_of(alloc, acts, printed.as_slice())?;
+    run_on_replies(alloc, outputs, job, acts, &replies, writer, teller)
 }
 
 /// The replies to a script, and what they say of each name.
@@ -174,23 +170,6 @@ fn run_on_lines<O: FileOutputs, R: Source, W: Sink, E: Sink>(
 struct Answers<'a, 'p> {
     replies: &'a Replies<'a, 'p>,
     accounts: &'a [Account<'a, 'p>],
-}
-
-/// Reads the replies from the printed text, writes the files and prints the lines.
-fn run_on_texts<O: FileOutputs, W: Sink, E: Sink>(
-    alloc: Global,
-    outputs: &mut O,
-    job: FilesJob<'_>,
-    printed: &[u8],
-    writer: &mut W,
-    teller: &mut E,
-) -> Result<usize, Outcome>
-    ensures { IfOk result (λ refused. AreSavedFrom W.contents W.has_failed writer.old writer.new
-        job.entry printed.now refused (O.written outputs.old) (O.written outputs.new)) }
-{
-    let acts = acts_of(alloc, job.lines)?;
-    let replies = replies_of(alloc, &acts, printed)?;
-    run_on_replies(alloc, outputs, job, &acts, &replies, writer, teller)
 }
 
 /// Writes the files and prints the lines, by the acts with their replies.
@@ -207,9 +186,7 @@ fn run_on_replies<O: FileOutputs, W: Sink, E: Sink>(
         (accounts_of (map named_act acts.now) replies.now) replies.now refused
         (O.written outputs.old) (O.written outputs.new)) }
 {
-    let Ok(accounts) = accounts_of(alloc, acts, replies) else {
-        return Err(Outcome::NoMemory);
-    };
+    let accounts = accounts_of(alloc, acts, replies)?;
     let answers = Answers {
         replies,
         accounts: &accounts,
@@ -217,7 +194,7 @@ fn run_on_replies<O: FileOutputs, W: Sink, E: Sink>(
     save_and_print(alloc, outputs, job, answers, writer, teller)
 }
 
-/// Writes the files, and prints the lines beside their replies.
+/// Writes the files, and prints the lines beside their replies, and their numbers.
 fn save_and_print<O: FileOutputs, W: Sink, E: Sink>(
     alloc: Global,
     outputs: &mut O,
@@ -231,31 +208,9 @@ fn save_and_print<O: FileOutputs, W: Sink, E: Sink>(
         refused (O.written outputs.old) (O.written outputs.new)) }
 {
     let files = save_files(outputs, job.wishes.folder, answers.accounts, teller)?;
-    print(alloc, outputs, job, answers, files, writer, teller)
-}
-
-/// Writes the lines of each name with their replies into the folder, and prints all lines beside
-/// their replies, and their numbers.
-fn print<O: FileOutputs, W: Sink, E: Sink>(
-    alloc: Global,
-    outputs: &mut O,
-    job: FilesJob<'_>,
-    answers: Answers<'_, '_>,
-    files: u32,
-    writer: &mut W,
-    teller: &mut E,
-) -> Result<usize, Outcome>
-    ensures { IfOk result (λ refused. AreRepliesSaved W.contents W.has_failed writer.old writer.new
-        job.entry (map account_now answers.entry.accounts.now) answers.entry.replies.now refused
-        (O.written outputs.old) (O.written outputs.new)) }
-{
     let lines = job.lines;
-    let Ok(asked) = script_lines(alloc, lines.text, lines.number) else {
-        return Err(Outcome::NoMemory);
-    };
-    let Ok(told) = told_lines(alloc, &asked, answers.replies) else {
-        return Err(Outcome::NoMemory);
-    };
+    let asked = script_lines(alloc, lines.text, lines.number)?;
+    let told = told_lines(alloc, &asked, answers.replies)?;
     print_told(
         alloc, outputs, job.wishes, answers, &told, files, writer, teller,
     )

@@ -60,9 +60,7 @@ fn print_object<W: Sink>(
     ensures { OnOk result (IsObjectPrinted W.contents W.has_failed writer.old writer.new
         (map account_now accounts.now) counts) }
 {
-    let Ok(names) = facts_of(alloc, accounts) else {
-        return Err(Outcome::NoMemory);
-    };
+    let names = facts_of(alloc, accounts)?;
     print_text(usages_text(alloc, counts, &names), writer)
 }
 

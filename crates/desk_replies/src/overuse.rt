@@ -1,7 +1,7 @@
 //! Where the routing of an unrouted tenancy is overused.
 ghost use Rattle.std.specs.Prelude.{◌≡◌, is_some, map, IfSome, None, OnOk, Some};
 ghost use Rattle.desk_replies.specs.Prelude.{Writes, IsLawful, IsWithin, MAX_TRACKS, named_act};
-ghost use Rattle.desk_replies.specs.Overused.{IsCrowdedBy, IsCrowdingFor, IsCrowdingOf, IsDevice, IsOveruseBy, IsOveruseIf, IsOveruseIn, IsPlanOf, IsReportedOveruseIn, changed_text, crowded_text, is_placed};
+ghost use Rattle.desk_replies.specs.Overused.{IsCrowdingFor, IsCrowdingOf, IsDevice, IsOveruseIf, IsOveruseIn, IsPlanOf, IsReportedOveruseIn, is_placed};
 ghost use Rattle.desk_replies.specs.Wishes.{wish_now, wish_of};
 ghost use Rattle.desk_replies.specs.Written.{AreTextsOf, WritesSome};
 
@@ -40,21 +40,8 @@ pub(crate) struct ServedScript<'a> {
     pub(crate) device: Option<SharedDevice<'a>>,
 }
 
-/// Writes for each tenancy of a report that is Unrouted where its routing is overused.
-pub(crate) fn write_overuses<W: Sink>(
-    alloc: Global,
-    report: &Report<'_>,
-    served: ServedScript<'_>,
-    writer: &mut W,
-) -> Result<(), Failed>
-    ensures { OnOk result (WritesSome W.contents W.has_failed writer.old writer.new
-        (AreTextsOf (IsReportedOveruseIn served.entry) report.now.tenancies.items)) }
-{
-    write_all_overuses(alloc, &report.tenancies, served, writer)
-}
-
 /// Writes for each of these tenancies that is Unrouted where its routing is overused.
-fn write_all_overuses<W: Sink>(
+pub(crate) fn write_overuses<W: Sink>(
     alloc: Global,
     tenancies: &[TenancyUse<'_>],
     served: ServedScript<'_>,
@@ -102,77 +89,19 @@ pub(crate) fn write_overuse<W: Sink>(
     ensures { OnOk result (WritesSome W.contents W.has_failed writer.old writer.new
         (IsOveruseIn served.entry name.now)) }
 {
-    match served.device {
-        Some(device) => {
-            let wish = wish_of(name, served.acts, served.replies);
-            write_overuse_on(alloc, device, wish, name, writer)
-        }
-        None => Ok(()),
-    }
-}
-
-/// Writes where the routing of a name with that wish is overused.
-fn write_overuse_on<W: Sink>(
-    alloc: Global,
-    device: SharedDevice<'_>,
-    wish: LayoutWish<'_>,
-    name: &[u8],
-    writer: &mut W,
-) -> Result<(), Failed>
-    ensures { OnOk result (WritesSome W.contents W.has_failed writer.old writer.new
-        (IsOveruseBy (is_placed (wish_now wish.entry)) device.entry (wish_now wish.entry)
-        name.now)) }
-{
-    match plan_of(device, wish) {
-        Some((plan, request)) => {
-            write_overused(alloc, plan, request, device.tracks, name, writer)
-        }
-        None => write_changed(name, writer),
-    }
-}
-
-/// Writes that the overused nodes of a name are not known.
-fn write_changed<W: Sink>(name: &[u8], writer: &mut W) -> Result<(), Failed>
-    ensures { Writes W.contents W.has_failed writer.old writer.new (changed_text name.now) result }
-{
-    write_slices(
-        writer,
-        &[
-            name,
-            b" nodes left overused: not known, since its netlist was changed\n",
-        ],
-    )
-}
-
-/// Writes the name and the most overused nodes, if there are any.
-fn write_overused<W: Sink>(
-    alloc: Global,
-    plan: DevicePlan<'_>,
-    request: Request<'_>,
-    tracks: u32,
-    name: &[u8],
-    writer: &mut W,
-) -> Result<(), Failed>
-    requires lawful { IsLawful plan request }
-    requires tracks { IsWithin 1 tracks MAX_TRACKS }
-    ensures { OnOk result (WritesSome W.contents W.has_failed writer.old writer.new
-        (IsCrowdedBy plan.entry request.entry tracks name.now)) }
-{
-    let Ok(Some(crowding)) = crowding_with(alloc, plan, tracks, request) else {
+    let Some(device) = served.device else {
         return Ok(());
     };
-    let written = write_named(name, &crowding, writer);
-    drop(crowding);
-    written
-}
-
-/// Writes the name and the most overused nodes.
-fn write_named<W: Sink>(name: &[u8], crowding: &Crowding, writer: &mut W) -> Result<(), Failed>
-    ensures { Writes W.contents W.has_failed writer.old writer.new
-        (crowded_text name.now crowding.now) result }
-{
+    let wish = wish_of(name, served.acts, served.replies);
+    let Some((plan, request)) = plan_of(device, wish) else {
+        let why = b" nodes left overused: not known, since its netlist was changed\n";
+        return write_slices(writer, &[name, why]);
+    };
+    let Ok(Some(crowding)) = crowding_with(alloc, plan, device.tracks, request) else {
+        return Ok(());
+    };
     write_slices(writer, &[name, b" "])?;
-    write_crowding(writer, crowding)
+    write_crowding(writer, &crowding)
 }
 
 /// Where the routing of an Unrouted name is overused: its netlist is packed, placed and routed
@@ -182,19 +111,8 @@ pub(crate) fn crowding_of(alloc: Global, served: ServedScript<'_>, name: &[u8]) 
     ensures { IfSome result (IsCrowdingOf served.entry.device
         (map named_act served.entry.acts.now) served.entry.replies.now name.now) }
 {
-    match served.device {
-        Some(device) => {
-            let wish = wish_of(name, served.acts, served.replies);
-            crowding_on(alloc, device, wish)
-        }
-        None => None,
-    }
-}
-
-/// Where the routing of a name with that wish is overused.
-fn crowding_on(alloc: Global, device: SharedDevice<'_>, wish: LayoutWish<'_>) -> Option<Crowding>
-    ensures { IfSome result (IsCrowdingFor device.entry (wish_now wish.entry)) }
-{
+    let device = served.device?;
+    let wish = wish_of(name, served.acts, served.replies);
     let (plan, request) = plan_of(device, wish)?;
     match crowding_with(alloc, plan, device.tracks, request) {
         Ok(found) => found,

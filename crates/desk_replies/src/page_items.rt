@@ -131,9 +131,7 @@ fn write_overuse_of<W: Sink>(
     let mut text = MemorySink::new(alloc);
     let made = write_overuse(alloc, served, name, &mut text);
     let shown = text_if(made.is_ok(), text.as_bytes());
-    let written = write_present("overuse", name, shown, writer);
-    drop(text);
-    written
+    write_present("overuse", name, shown, writer)
 }
 
 /// Writes the stops of the longest path of a name's netlist, if there is one and memory suffices to
@@ -150,9 +148,7 @@ fn write_stops_of<W: Sink>(
     let mut text = MemorySink::new(alloc);
     let made = write_present_stops(alloc, account.files, &mut text);
     let shown = text_if(made.is_ok() && !text.as_bytes().is_empty(), text.as_bytes());
-    let written = write_present("path", account.name, shown, writer);
-    drop(text);
-    written
+    write_present("path", account.name, shown, writer)
 }
 
 /// The text, if it is made.

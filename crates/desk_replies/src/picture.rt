@@ -28,11 +28,7 @@ pub fn run<R: Source, W: Sink>(
     ensures { IsPictureEnd (R.remaining reader.old) size result }
 {
     match read_all(alloc, reader) {
-        Ok(text) => {
-            let outcome = draw_text(alloc, size, text.as_slice(), writer);
-            drop(text);
-            outcome
-        }
+        Ok(text) => draw_text(alloc, size, text.as_slice(), writer),
         Err(error) => Outcome::of_reading(error),
     }
 }

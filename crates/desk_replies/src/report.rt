@@ -1,10 +1,10 @@
 //! The tool that says how full the device is.
-ghost use Rattle.std.specs.Prelude.{◌<◌, ◌^◌, length, map, true, is_some, option_map, IfOk, OnErr};
+ghost use Rattle.std.specs.Prelude.{is_some, map, option_map, IfOk, OnErr};
 ghost use Rattle.desk_replies.specs.Overused.{IsOveruseOf, IsReportedOveruseIn};
-ghost use Rattle.desk_replies.specs.Paths.{told_accounts};
 ghost use Rattle.desk_replies.specs.Prelude.{accounts_of, named_act};
+ghost use Rattle.desk_replies.specs.Paths.{told_accounts};
 ghost use Rattle.desk_replies.specs.Asked.{IsReportAskedFor, IsReportForm};
-ghost use Rattle.desk_replies.specs.Reported.{IsObject, IsReportShown, IsReported, IsShown, IsShownAlone, IsShownBy};
+ghost use Rattle.desk_replies.specs.Reported.{IsObject, IsReported, IsShown, IsShownAlone, IsShownBy};
 
 use crate::device_input::device_in;
 use crate::lines::Lines;
@@ -17,7 +17,9 @@ use crate::script_input::{acts_of, lines_of, replies_of};
 use crate::shared_device::SharedDevice;
 use crate::size::{PADS, size_of};
 use crate::tenancy_table::write_table;
-use desk_common::{COLUMNS, DEVICE, FileRole, Outcome, ROWS, TRACKS, read_file, read_input};
+use desk_common::{
+    COLUMNS, DEVICE, FILE, FLAG, FileRole, Outcome, ROWS, TRACKS, read_file, read_input,
+};
 use device_lines::DeviceSize;
 use device_report::{Report, write_report};
 use line_text::{Sink, Source};
@@ -60,24 +62,18 @@ const OPTIONS: &[OptionWord] = &[
     PADS,
     OptionWord {
         name: "csv",
-        value_name: "",
         help: "Prints only what the tenancies use, as a line of headings and a line for each",
-        takes: Takes::Nothing,
-        default: None,
+        ..FLAG
     },
     OptionWord {
         name: "json",
-        value_name: "",
         help: "Prints the report as one JSON object, with all that it knows",
-        takes: Takes::Nothing,
-        default: None,
+        ..FLAG
     },
     OptionWord {
         name: "moves",
-        value_name: "",
         help: "Prints only the gaps, and moves that join them, as lines of a script",
-        takes: Takes::Nothing,
-        default: None,
+        ..FLAG
     },
     OptionWord {
         name: "script",
@@ -88,10 +84,8 @@ const OPTIONS: &[OptionWord] = &[
     },
     OptionWord {
         name: "arch",
-        value_name: "FILE",
         help: "Give it with --script if fpgad was run with --arch: the script then does not begin with the architecture",
-        takes: Takes::Text,
-        default: None,
+        ..FILE
     },
 ];
 
@@ -163,24 +157,7 @@ pub fn run<H: Files + AllocGlobal, R: Source, W: Sink, E: Sink>(
         return run_on_lines(rt.alloc(), wishes, None, reader, writer);
     };
     let script = read_file(rt, FileRole::Script, path, u64::MAX, teller)?;
-    run_on_script(rt, wishes, script.as_slice(), reader, writer, teller)
-}
-
-/// Reads the architecture if it has a file of its own, and what was printed for the script, and
-/// prints the report.
-fn run_on_script<H: Files + AllocGlobal, R: Source, W: Sink, E: Sink>(
-    rt: &H,
-    wishes: ReportWishes<'_>,
-    script: &[u8],
-    reader: &mut R,
-    writer: &mut W,
-    teller: &mut E,
-) -> Result<(), Outcome>
-    requires { length script.now < 2 ^ 63 }
-    ensures { IfOk result (λ _. IsReported W.contents W.has_failed writer.old writer.new
-        (R.remaining reader.old) wishes.entry true) }
-{
-    let lines = lines_of(script, wishes.arch.is_none());
+    let lines = lines_of(script.as_slice(), wishes.arch.is_none());
     let Some(path) = wishes.arch else {
         return run_on_lines(rt.alloc(), wishes, Some(lines), reader, writer);
     };
@@ -205,31 +182,11 @@ fn run_on_lines<R: Source, W: Sink>(
         (R.remaining reader.old) wishes.entry (is_some lines.entry)) }
 {
     let printed = read_input(alloc, reader)?;
-    run_on_text(alloc, wishes, lines, printed.as_slice(), writer)
-}
-
-/// Prints the report of the device that the text prints.
-fn run_on_text<W: Sink>(
-    alloc: Global,
-    wishes: ReportWishes<'_>,
-    lines: Option<Lines<'_>>,
-    printed: &[u8],
-    writer: &mut W,
-) -> Result<(), Outcome>
-    ensures { IfOk result (λ _. IsReportShown W.contents W.has_failed writer.old writer.new
-        wishes.entry (is_some lines.entry) printed.now) }
-{
-    let device = device_in(alloc, wishes.size, printed)?;
-    let report = Report::new(alloc, &device);
+    let text = printed.as_slice();
+    let device = device_in(alloc, wishes.size, text)?;
+    let report = Report::new(alloc, &device)?;
     drop(device);
-    match report {
-        Ok(report) => {
-            let outcome = print(alloc, wishes, lines, printed, &report, writer);
-            drop(report);
-            outcome
-        }
-        Err(_) => Err(Outcome::NoMemory),
-    }
+    print(alloc, wishes, lines, text, &report, writer)
 }
 
 /// Prints a report, or moves if they are asked for. With the script a report has the longest paths
@@ -250,17 +207,10 @@ fn print<W: Sink>(
     };
     let size = wishes.size;
     let device = SharedDevice::new(lines.architecture, size.rows, size.tracks);
-    let acts = acts_of(alloc, lines)?;
-    let outcome = match replies_of(alloc, &acts, printed) {
-        Ok(replies) => {
-            let outcome = print_acts(alloc, wishes.form, device, report, &acts, &replies, writer);
-            drop(replies);
-            outcome
-        }
-        Err(outcome) => Err(outcome),
-    };
-    drop(acts);
-    outcome
+    let script = acts_of(alloc, lines)?;
+    let acts = script.as_slice();
+    let replies = replies_of(alloc, acts, printed)?;
+    print_acts(alloc, wishes.form, device, report, acts, &replies, writer)
 }
 
 /// Prints a report of a device on which these acts had these replies.
@@ -313,9 +263,7 @@ fn print_object<W: Sink>(
     ensures { IfOk result (λ _. IsObject W.contents W.has_failed writer.old writer.new
         (option_map told_accounts told.entry) report.now) }
 {
-    let Ok(facts) = facts_of(alloc, report, told) else {
-        return Err(Outcome::NoMemory);
-    };
+    let facts = facts_of(alloc, report, told)?;
     print_json(alloc, report, &facts, writer)
 }
 
@@ -332,9 +280,7 @@ fn print_served<'a, W: Sink>(
         (IsReportedOveruseIn served.entry) form
         (accounts_of (map named_act served.entry.acts.now) served.entry.replies.now) report.now) }
 {
-    let Ok(accounts) = accounts_of(alloc, served.acts, served.replies) else {
-        return Err(Outcome::NoMemory);
-    };
+    let accounts = accounts_of(alloc, served.acts, served.replies)?;
     let told = Told {
         served,
         accounts: &accounts,
@@ -359,8 +305,6 @@ fn print_told<W: Sink>(
         )),
         ReportForm::Json => print_object(alloc, report, Some(told), writer),
         ReportForm::Moves => print_moves(alloc, report, writer),
-        ReportForm::Lines => {
-            write_told(alloc, report, told, writer).or(Err(Outcome::OutputFailed))
-        }
+        ReportForm::Lines => write_told(alloc, report, told, writer).or(Err(Outcome::OutputFailed)),
     }
 }

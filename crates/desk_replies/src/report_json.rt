@@ -108,19 +108,10 @@ fn write_channel_list(pen: &mut JsonPen, channels: &[ChannelUse]) -> Result<(), 
         ++ json_tokens (list_of (map channel_json channels.now))) }
 {
     pen.open_list()?;
-    write_channels(pen, channels)?;
-    pen.close_list()
-}
-
-/// Writes these channels, one after another.
-fn write_channels(pen: &mut JsonPen, channels: &[ChannelUse]) -> Result<(), AllocError>
-    ensures { OnOk result (pen.new ≡ pen.old
-        ++ flat_map (λ channel. json_tokens (channel_json channel)) channels.now) }
-{
     for channel in channels {
         write_channel(pen, *channel)?;
     }
-    Ok(())
+    pen.close_list()
 }
 
 /// Writes the list of the tenancies.
@@ -129,19 +120,10 @@ fn write_tenancy_list(pen: &mut JsonPen, facts: &[TenancyFacts<'_>]) -> Result<(
         ++ json_tokens (list_of (map tenancy_json facts.now))) }
 {
     pen.open_list()?;
-    write_tenancies(pen, facts)?;
-    pen.close_list()
-}
-
-/// Writes the tenancies, one after another.
-fn write_tenancies(pen: &mut JsonPen, facts: &[TenancyFacts<'_>]) -> Result<(), AllocError>
-    ensures { OnOk result (pen.new ≡ pen.old
-        ++ flat_map (λ one. json_tokens (tenancy_json one)) facts.now) }
-{
     for one in facts {
         write_tenancy(pen, one)?;
     }
-    Ok(())
+    pen.close_list()
 }
 
 /// Writes a tenancy.

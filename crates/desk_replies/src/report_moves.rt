@@ -20,10 +20,10 @@ pub(crate) fn print_moves<W: Sink>(
 ) -> Result<(), Outcome>
     ensures { IfOk result (λ _. AreMoves W.contents W.has_failed writer.old writer.new report.now) }
 {
-    let Ok(strips) = strips_of(alloc, report) else {
-        return Err(Outcome::NoMemory);
-    };
-    print_strips(alloc, report, &strips, writer)
+    let strips = strips_of(alloc, report)?;
+    let placed = strips.as_slice();
+    print_gaps(alloc, report, placed, writer)?;
+    print_joining(alloc, report, placed, writer)
 }
 
 /// The strips of the tenancies of a report.
@@ -41,20 +41,6 @@ fn strips_of(alloc: Global, report: &Report<'_>) -> Result<Vec<PlacedStrip>, All
         .collect(alloc)
 }
 
-/// Prints the gaps between these strips, and the moves that join them.
-fn print_strips<W: Sink>(
-    alloc: Global,
-    report: &Report<'_>,
-    strips: &[PlacedStrip],
-    writer: &mut W,
-) -> Result<(), Outcome>
-    requires { strips.now ≡ strips_of report.now }
-    ensures { IfOk result (λ _. AreMoves W.contents W.has_failed writer.old writer.new report.now) }
-{
-    print_gaps(alloc, report, strips, writer)?;
-    print_joining(alloc, report, strips, writer)
-}
-
 /// Prints the gaps and the widest strip that would be admitted now.
 fn print_gaps<W: Sink>(
     alloc: Global,
@@ -65,9 +51,7 @@ fn print_gaps<W: Sink>(
     ensures { IfOk result (λ _. TakesAll W.contents W.has_failed writer.old writer.new
         (gaps_text (gaps_of report.now.size.columns strips.now) report.now.widest)) }
 {
-    let Ok(gaps) = gaps_of(alloc, report.size.columns, strips) else {
-        return Err(Outcome::NoMemory);
-    };
+    let gaps = gaps_of(alloc, report.size.columns, strips)?;
     write_gaps(&gaps, report.widest, writer).or(Err(Outcome::OutputFailed))
 }
 

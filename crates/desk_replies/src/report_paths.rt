@@ -32,7 +32,7 @@ pub(crate) fn write_told<W: Sink>(
 {
     write_report(writer, report)?;
     write_paths(alloc, report, told.accounts, writer)?;
-    write_overuses(alloc, report, told.served, writer)
+    write_overuses(alloc, &report.tenancies, told.served, writer)
 }
 
 /// Writes a line for each tenancy of a report: the longest path of its netlist, by the accounts of

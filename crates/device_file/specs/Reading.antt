@@ -41,10 +41,6 @@ abbrev pub IsStep : Step → Read → Result (Unit {0}) (TextError DeviceFileFau
 IsStep meant new (Ok nothing) = meant ≡ Ok new
 IsStep meant new (Err error) = IsError meant error
 
-abbrev pub IsEnd : Result (List Given) FoundFault → Read → Result (Unit {0}) (TextError DeviceFileFault) → Type 0
-IsEnd meant new (Ok nothing) = meant ≡ Ok new.values
-IsEnd meant new (Err error) = IsError meant error
-
 abbrev pub Refuses : ℕ → FaultKind → List ℕ → TextError DeviceFileFault → Type 0
 Refuses line kind word (Fault fault) = fault_of fault ≡ record { line = line; kind = kind; word = word }
 Refuses line kind word NoMemory = ⊥

@@ -1,9 +1,8 @@
 //! Reads a device file.
 ghost use Rattle.std.specs.Prelude.{◌≡◌, ◌<◌, ◌^◌, length};
-ghost use Rattle.line_text.specs.Lines.{physical_lines};
 ghost use Rattle.line_text.specs.Words.{texts};
-ghost use Rattle.device_file.specs.DeviceFiles.{lines_read, line_read, nothing_read, is_given, option_read, value_read, values_in, word_read, words_read};
-ghost use Rattle.device_file.specs.Reading.{Gives, IsEnd, IsStep, Refuses, read_of};
+ghost use Rattle.device_file.specs.DeviceFiles.{line_read, is_given, option_read, value_read, values_in, word_read, words_read};
+ghost use Rattle.device_file.specs.Reading.{Gives, IsStep, Refuses, read_of};
 
 use crate::fault::{DeviceFileError, DeviceFileFault, FaultKind};
 use crate::names::{begins_comment, is_no_value, is_option, is_text, is_value, split_value};
@@ -42,40 +41,6 @@ fn refusal<'t>(line: u32, kind: FaultKind, word: &'t [u8]) -> DeviceFileError<'t
 }
 
 impl<'t> Reader<'t> {
-    /// Reads the lines of a text, and what is missing at its end.
-    fn text(&mut self, alloc: Global, text: &'t [u8]) -> Result<(), DeviceFileError<'t>>
-        requires few { length text.now < 2 ^ 32 }
-        requires new { read_of self.old ≡ nothing_read }
-        ensures { IsEnd (values_in text.now) (read_of self.new) result }
-    {
-        if let Err(error) = self.lines(alloc, text) {
-            return Err(error);
-        }
-        match self.awaited {
-            Some(awaited) => Err(refusal(awaited.line, FaultKind::NoValue, awaited.name)),
-            None => Ok(()),
-        }
-    }
-
-    /// Reads the lines of a text. Fails at the first faulty one.
-    fn lines(&mut self, alloc: Global, text: &'t [u8]) -> Result<(), DeviceFileError<'t>>
-        requires { length text.now < 2 ^ 32 }
-        ensures { IsStep (lines_read (physical_lines text.now) (read_of self.old) 0)
-            (read_of self.new) result }
-    {
-        let mut rest = text;
-        let mut number = 0;
-        while !rest.is_empty() {
-            let (line, later) = split_line(rest);
-            number += 1;
-            if let Err(error) = self.line(alloc, line, number) {
-                return Err(error);
-            }
-            rest = later;
-        }
-        Ok(())
-    }
-
     /// Reads a line, which has that number.
     fn line(
         &mut self,
@@ -89,12 +54,10 @@ impl<'t> Reader<'t> {
             return Err(refusal(number, FaultKind::NotText, b""));
         }
         let mut words = Vec::new(alloc);
-        let read = match append_words(&mut words, line) {
+        match append_words(&mut words, line) {
             Ok(()) => self.words(&words, number),
             Err(_) => Err(DeviceFileError::NoMemory),
-        };
-        drop(words);
-        read
+        }
     }
 
     /// Reads the words of a line, up to its comment.
@@ -189,13 +152,18 @@ pub fn read_device_file(
         values: Vec::new(alloc),
         awaited: None,
     };
-    let ended = reader.text(alloc, text);
-    let Reader { values, awaited: _ } = reader;
-    match ended {
-        Ok(()) => Ok(values),
-        Err(error) => {
-            drop(values);
-            Err(error)
+    let mut rest = text;
+    let mut number = 0;
+    while !rest.is_empty() {
+        let (line, later) = split_line(rest);
+        number += 1;
+        if let Err(error) = reader.line(alloc, line, number) {
+            return Err(error);
         }
+        rest = later;
+    }
+    match reader.awaited {
+        Some(awaited) => Err(refusal(awaited.line, FaultKind::NoValue, awaited.name)),
+        None => Ok(reader.values),
     }
 }

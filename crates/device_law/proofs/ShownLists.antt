@@ -1,5 +1,5 @@
 -- What is read of the replies to `op list` and `op owners`.
-use Rattle.device_law.proofs.Prelude.{◌≡◌, ℕ, ◌+◌, ◌^◌, ◌<◌, ◌≤◌, true, List, [], ◌∷◌, ◌++◌, length, get_or, map, Option, Some, None, refl, sym, ap, ◌∙◌, subst, arith, ⊤, All, AllPairs, Contains, IfSome, unwrap_or, All-contains_itself, IsEarlier, PlacedStrip, Owned, Device, IsDevice, ListsOwnersOf, list_text, owners_text, Stage, if_live_some, history_of, DeviceSize, Listed, OwnedNode, Seen, lines_of, lines_read, list_before, plus, IsSmall, is_on, last_line, node_of, with_owners, entries, entries_read, Shown, size_of, without_state}
+use Rattle.device_law.proofs.Prelude.{◌≡◌, ℕ, ◌+◌, ◌<◌, ◌≤◌, true, List, [], ◌∷◌, ◌++◌, length, get_or, map, Option, Some, None, refl, sym, ap, ◌∙◌, subst, arith, All, IfSome, unwrap_or, All-contains_itself, PlacedStrip, Owned, Device, IsDevice, ListsOwnersOf, list_text, owners_text, Stage, if_live_some, history_of, DeviceSize, Listed, Seen, lines_of, lines_read, plus, IsSmall, is_on, last_line, node_of, with_owners, entries, entries_read, Shown, size_of, without_state}
 use Rattle.device_law.proofs.Box.{InBox, each_of, in_box, owners_few}
 use Rattle.device_law.proofs.Each.{Each, each-map, each-of_map, each-weaken}
 use Rattle.device_law.proofs.Found.{OwnedIn}
@@ -46,9 +46,6 @@ module _ (device : Device) (known : IsDevice device) (stage : Stage) (fine : Fin
 
   abbrev Reading : List Listed → Type 0
   Reading list = (rest : List ℕ) → lines_read (lines_of (list_text stage.service stage.names ++ rest)) seen number ≡ entries_read list seen number (λ s n. lines_read (lines_of rest) s n)
-
-  listed_now : List Listed → Shown
-  listed_now list = record shown { listed = Some list }
 
   by_list : (list : List Listed) → map without_state list ≡ strip_entries stage.service.plan.strips stage.names → Each (IsOn seen.size) list → Fits [] list → Reading list → Then (record shown { listed = Some list }) (list_text stage.service stage.names)
   by_list [] same on fits reads = record {

@@ -60,15 +60,15 @@ fn free_columns(columns: u32, strips: &[PlacedStrip]) -> usize
         .count()
 }
 
-/// Returns whether a column is one of a strip's.
-fn is_used(strips: &[PlacedStrip], column: u32) -> bool
+/// Returns whether a column, counted from 1, is one of a strip's.
+pub fn is_used(strips: &[PlacedStrip], column: u32) -> bool
     ensures { result ≡ is_used strips.now column }
 {
     strips.iter().any(|strip| is_in(*strip, column))
 }
 
-/// Returns whether a column is right beside a strip.
-fn is_beside_any(strips: &[PlacedStrip], column: u32) -> bool
+/// Returns whether a column, counted from 1, is right beside a strip.
+pub fn is_beside_any(strips: &[PlacedStrip], column: u32) -> bool
     ensures { result ≡ is_beside_any strips.now column }
 {
     strips.iter().any(|strip| is_beside(*strip, column))

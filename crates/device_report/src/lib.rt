@@ -20,8 +20,8 @@ mod text;
 mod widest;
 
 pub use channels::{ChannelDirection, ChannelUse, MAX_SHOWN};
-pub use columns::ColumnUse;
+pub use columns::{ColumnUse, is_beside_any, is_used};
 pub use report::Report;
 pub use tenancies::{ResourceUse, TenancyUse};
 pub use text::{channel_word, used_part, write_channel, write_report};
-pub use widest::Room;
+pub use widest::{Room, is_apart_from_all};

@@ -88,7 +88,7 @@ fn are_apart(strips: &[PlacedStrip]) -> bool
 }
 
 /// Returns whether a column between the strip and each of those is unused.
-fn is_apart_from_all(strips: &[PlacedStrip], strip: PlacedStrip) -> bool
+pub fn is_apart_from_all(strips: &[PlacedStrip], strip: PlacedStrip) -> bool
     requires strip { strip.offset + strip.width ≤ MAX_COLUMNS }
     requires strips { All (λ s. s.offset + s.width ≤ MAX_COLUMNS) strips.now }
     ensures { IsTrue result ↔ All (λ s. AreApart s strip) strips.now }

@@ -1,9 +1,8 @@
 -- The wires up to a sink, by tables of distances.
-use Rattle.fabric_planes.proofs.Prelude.{◌≡◌, ℕ, ◌-◌, ◌<◌, ◌≤◌, true, List, subst, sym, arith, NodeKind, Sink, ChanX, ChanY, Node, IsWire, is_node, Basis, IsBasis, graph_of, make_node, AreAheads, wires_to, AreFar, wires_by, Target, Level, Block, IsInStrip, IsAtSide, IsWireAt}
+use Rattle.fabric_planes.proofs.Prelude.{◌≡◌, ℕ, ◌-◌, ◌<◌, ◌≤◌, true, List, subst, sym, arith, NodeKind, Sink, ChanX, ChanY, Node, IsWire, is_node, Basis, IsBasis, graph_of, AreAheads, wires_to, AreFar, wires_by, Target, Level, Block, IsInStrip, IsAtSide, IsWireAt}
 use Rattle.fabric_planes.proofs.Lowered.{by_four}
 use Rattle.fabric_planes.proofs.PinsRowed.{pin_facts}
 use Rattle.fabric_planes.proofs.Strips.{lawful, wire_row}
-use Rattle.fabric_planes.proofs.Wires.{upright_facts}
 
 -- the distance from a wire at a side
 abbrev IsFarFrom : Target → ℕ → ℕ → NodeKind → ℕ → ℕ → NodeKind → ℕ → ℕ → Type 0
@@ -42,9 +41,7 @@ module _ (basis : Basis) (is : IsBasis basis) (sink : Node) where
   node = (graph_of basis).node
 
   row_from : (number : ℕ) → IsWireAt basis number → (node number).kind ≡ ChanY → 1 ≤ (node number).y
-  row_from number w e =
-      let v = node number in
-      (upright_facts basis v.x v.y v.n (subst (λ (k : NodeKind). is_node basis.arch basis.strip (make_node v.x k v.y v.n) ≡ true) e ((lawful is).nodes number w.within))).from
+  row_from number w e = grind (arith, lawful is)
 
   -- if the target is at most as far as each wire at a side
   ahead_by : (target : Target) (u v : ℕ) (table : List ℕ) → AreFar basis target u v table

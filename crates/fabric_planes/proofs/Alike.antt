@@ -1,11 +1,10 @@
 -- Nodes whose edges lead to the same places, but for a shift: wires of other tracks and columns,
 -- and pins of other columns.
-use Rattle.fabric_planes.proofs.Prelude.{◌≡◌, ℕ, ◌+◌, ◌-◌, ◌*◌, ◌<◌, ◌≤◌, ◌⊎◌, List, [], ◌∷◌, length, get_or, map, refl, sym, ap, ◌∙◌, subst, inl, inr, arith, Bool, true, ◌==◌, ◌&&◌, ◌||◌, nat_le, Contains, IsStrictlyIncreasing, le-leb, or_right, nat_tests, length-map, get_or-map, Contains-get_or, mul-le, map-map, Arch, Strip, NodeKind, Source, Sink, Opin, Ipin, ChanX, ChanY, Node, IsWire, is_node, is_slot, is_chan_y, is_block_row, is_together, joins, node_at_offset, Basis, IsBasis, graph_of, make_node, columns_right, joins_moved, IsNear, joins_reached, reached_near, same_rising, View, shown_ends, seen_from, row_of, base_of, Terminals, stride_of, offset_of, place_of, shows}
+use Rattle.fabric_planes.proofs.Prelude.{◌≡◌, ℕ, ◌+◌, ◌-◌, ◌*◌, ◌<◌, ◌≤◌, ◌⊎◌, List, [], ◌∷◌, length, get_or, map, refl, sym, ap, ◌∙◌, subst, inl, inr, arith, true, ◌==◌, Contains, IsStrictlyIncreasing, le-leb, nat_tests, length-map, get_or-map, Contains-get_or, mul-le, map-map, Arch, Strip, NodeKind, Ipin, Node, IsWire, is_node, is_chan_y, is_together, joins, node_at_offset, Basis, IsBasis, graph_of, make_node, columns_right, joins_moved, IsNear, joins_reached, reached_near, same_rising, View, shown_ends, seen_from, row_of, base_of, Terminals, stride_of, place_of, shows}
 use Rattle.fabric_planes.proofs.Found.{same_offset}
 use Rattle.fabric_planes.proofs.PlaneEnds.{end_back, end_shown, shown_rise}
 use Rattle.fabric_planes.proofs.Members.{in_map, map_in}
-use Rattle.fabric_planes.proofs.Strips.{offset_few, wire_shows, together_parts}
-use Rattle.fabric_planes.proofs.Wires.{each_track}
+use Rattle.fabric_planes.proofs.Strips.{offset_few, together_parts}
 
 -- ---- lists
 
@@ -28,10 +27,6 @@ raised_back c (x ∷ xs) = grind (arith, raised_back c xs)
 leads_on : (arch : Arch) (strip : Strip) (ka kb : NodeKind) (a b : Node) → IsWire ka → joins arch strip ka kb a b ≡ true → IsWire kb ⊎ (kb ≡ Ipin)
 leads_on arch strip ka kb a b w h = grind arith
 
--- a pin's edges lead within its column, but for those to the vertical wires to its left
-pin_right : (ka kb : NodeKind) → (IsWire ka → ⊥) → columns_right ka kb ≡ 0
-pin_right ka kb pin = grind arith
-
 pin_left : (ka kb : NodeKind) → (IsWire ka → ⊥) → (columns_right kb ka ≡ 0) ⊎ (is_chan_y kb ≡ true)
 pin_left ka kb pin = grind arith
 
@@ -44,10 +39,6 @@ not_moved d p e = let x : p.x + d ≡ p.x = omega (arith, e) in ap (λ (x : ℕ)
 -- the wire of another track
 abbrev pub on_track : ℕ → Node → Node
 on_track n p = make_node p.x p.kind p.y n
-
--- wires meet on each track, or on none
-meet_on : (arch : Arch) (strip : Strip) (ka kb : NodeKind) (a b : Node) (n m : ℕ) → IsWire ka → IsWire kb → joins arch strip ka kb (on_track n a) (on_track n b) ≡ joins arch strip ka kb (on_track m a) (on_track m b)
-meet_on arch strip ka kb a b n m v w = grind arith
 
 -- the track of a wire that is shown
 track_of : (strip : Strip) (t : Terminals) (track : ℕ) (kind : NodeKind) (p : Node) → IsWire kind → shows strip t track kind p ≡ true → p.n ≡ track
@@ -102,8 +93,7 @@ module _ {basis : Basis} (is : IsBasis basis) where
 
   pub same_row : (view other : View) (i j : ℕ) → i < (graph_of basis).count → j < (graph_of basis).count → AreAlike (seen_from view.node) (seen_from other.node) view.track other.track i j (base_of basis i) (base_of basis j)
       → row_of basis view i ≡ row_of basis other j
-  same_row view other i j within after are =
-      sym (raised_back (base_of basis j) (row_of basis view i)) ∙ (ap (map (λ (v : ℕ). v - base_of basis j)) (wire_row_moved view (seen_from other.node) other.track i j within after are) ∙ sym (row_is other j))
+  same_row view other i j within after are = cc (raised_back (base_of basis j) (row_of basis view i), wire_row_moved view (seen_from other.node) other.track i j within after are, row_is other j)
 
   -- ---- places
 
@@ -123,24 +113,13 @@ module _ {basis : Basis} (is : IsBasis basis) where
   -- ---- columns
 
   node_fits : (d : ℕ) (p : Node) → p.x + d ≤ basis.strip.width → (1 ≤ p.x) ⊎ (is_chan_y p.kind ≡ true) → is_node basis.arch basis.strip (node_at_offset d p) ≡ is_node basis.arch basis.strip p
-  node_fits d p few which =
-      let slot : Bool = is_slot basis.arch basis.strip p.kind p.y p.n in
-      elim which [
-        | inl some ↦ rw (le-leb (p.x + d) basis.strip.width few, le-leb 1 (p.x + d) (omega (arith, some)), le-leb p.x basis.strip.width (omega (arith, few)), le-leb 1 p.x some) refl
-        | inr up ↦ rw (le-leb (p.x + d) basis.strip.width few, le-leb p.x basis.strip.width (omega (arith, few)), or_right (nat_le 1 (p.x + d)) (is_chan_y p.kind) up, or_right (nat_le 1 p.x) (is_chan_y p.kind) up) refl
-      ]
+  node_fits d p few which = grind (arith, le-leb)
 
   pub node_moved : (d : ℕ) (p : Node) → 1 ≤ p.x → p.x + d ≤ basis.strip.width → is_node basis.arch basis.strip (node_at_offset d p) ≡ is_node basis.arch basis.strip p
   node_moved d p some few = node_fits d p few (inl some)
 
-  offset_moved : (d : ℕ) (kind : NodeKind) (p : Node) → offset_of basis kind (node_at_offset d p) ≡ offset_of basis kind p
-  offset_moved d Source p = refl
-  offset_moved d _ p = refl
-
   pub place_moved : (d : ℕ) (p : Node) → place_of basis (node_at_offset d p) ≡ place_of basis p + d * stride_of basis
-  place_moved d p =
-      let e : (p.x + d + 2) * stride_of basis ≡ (p.x + 2) * stride_of basis + d * stride_of basis = grind arith in
-      omega (arith, e, offset_moved d p.kind p)
+  place_moved d p = grind arith
 
   module _ (t u : Terminals) (k m i j d : ℕ) (within : i < (graph_of basis).count) (to : node j ≡ node_at_offset d (node i)) where
     IsJoined : Node → Type 0
@@ -183,20 +162,11 @@ module _ {basis : Basis} (is : IsBasis basis) where
     pub pins_alike : (IsWire (node i).kind → ⊥) → 1 ≤ (node i).x → (node i).x + d ≤ basis.strip.width → ((p : Node) → joins basis.arch basis.strip (node i).kind p.kind (node i) p ≡ true → shows basis.strip u m p.kind (node_at_offset d p) ≡ shows basis.strip t k p.kind p)
         → AreAlike t u k m i j (base_of basis i) (base_of basis j)
     unfolding IsJoined Fits IsShownAlike
-    pins_alike pin some few shown = moved_alike (inr some) (λ p h.
-        let r = joins_reached basis.arch basis.strip (node i).kind p.kind (node i) p refl refl h in
-        node_fits d p (omega (arith, r.right, pin_right (node i).kind p.kind pin, few)) (elim (pin_left (node i).kind p.kind pin) [ inl none ↦ inl (omega (arith, r.left, none, some)) | inr up ↦ inr up ])) shown
+    pins_alike pin some few shown = grind (arith, moved_alike, joins_reached, node_fits, pin_left)
 
   module _ (t u : Terminals) (track i j d : ℕ) (within : i < (graph_of basis).count) (wire : IsWire (node i).kind) (to : node j ≡ node_at_offset d (node i)) (sinks : u.sink ≡ node_at_offset d t.sink) where
     shows_moved : (kind : NodeKind) (p : Node) → IsWire kind ⊎ (kind ≡ Ipin) → shows basis.strip u track kind (node_at_offset d p) ≡ shows basis.strip t track kind p
-    shows_moved ChanX p k = refl
-    shows_moved ChanY p k = refl
-    shows_moved Ipin p k =
-        ap (is_together basis.strip (node_at_offset d p)) sinks ∙ ap (λ (b : Bool). b && ((p.y == t.sink.y) && (is_block_row basis.strip p.y || (p.n == t.sink.n)))) (same_moved d p.x t.sink.x)
-    shows_moved Source p (inr e) = cc
-    shows_moved Sink p (inr e) = cc
-    shows_moved Opin p (inr e) = cc
-    shows_moved _ p (inl w) = absurd w
+    shows_moved kind p k = grind arith
 
     -- a wire in another column, where both have the same neighbours
     pub columns_alike : (d ≡ 0) ⊎ ((2 ≤ (node i).x) × ((node i).x + d < basis.strip.width)) → AreAlike t u track track i j (base_of basis i) (base_of basis j)
@@ -218,15 +188,7 @@ module _ {basis : Basis} (is : IsBasis basis) where
 
     -- a wire that meets the one meets the other on its track
     end_on : (u v : Terminals) (n m a b : ℕ) → node a ≡ on_track n (node i) → node b ≡ on_track m (node i) → m < basis.arch.tracks → (p : Node) → IsWire p.kind → IsEnd u n a p → IsEnd v m b (on_track m p)
-    end_on u v n m a b from at low p w e =
-        let own : on_track n p ≡ p = ap (make_node p.x p.kind p.y) (sym (track_of basis.strip u n p.kind p w e.shown)) in
-        let h : joins basis.arch basis.strip (node i).kind p.kind (on_track n (node i)) (on_track n p) ≡ true =
-        ap (joins basis.arch basis.strip (node i).kind p.kind (on_track n (node i))) own ∙ subst (λ (v : Node). joins basis.arch basis.strip v.kind p.kind v p ≡ true) from e.joined in
-        record {
-          there = each_track basis p.kind p.x p.y p.n m w low e.there;
-          joined = subst (λ (v : Node). joins basis.arch basis.strip v.kind p.kind v (on_track m p) ≡ true) (sym at) (sym (meet_on basis.arch basis.strip (node i).kind p.kind (node i) p n m wire w) ∙ h);
-          shown = wire_shows basis.strip v m p.kind (on_track m p) w refl;
-        }
+    end_on u v n m a b from at low p w e = search arith
 
     own_track : node i ≡ on_track 0 (node i)
     own_track = ap (make_node (node i).x (node i).kind (node i).y) first

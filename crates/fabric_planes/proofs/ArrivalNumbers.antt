@@ -1,5 +1,5 @@
 -- The rows of the ends of wires at sides, by number.
-use Rattle.fabric_planes.proofs.Prelude.{ℕ, ◌≡◌, ◌+◌, ◌-◌, ◌*◌, ◌^◌, ◌<◌, ◌≤◌, ◌⊎◌, true, Bool, List, [], map, min, inl, inr, refl, sym, ap, subst, ◌∙◌, arith, slice_index, slice_index_or, cases_eq, cases_lt, eq-eqb, ne_eqb, length-map-range_with_len, get_or-map-range_with_len, mul-le, mul-add-lt, div-mul-add, mod-mul-add, NodeKind, Sink, Node, IsWire, is_node, is_slot, node_at_offset, Basis, IsBasis, graph_of, make_node, index_of, column_of, wire_beside, arrival_if, arrival_for, arrival_at, row_count, first_row, first_rows, AreRowsBelow, base_of, row_of, seen_from, shown_ends, Terminals, band_of, AreArrivals, ends_in, IsAtSide, side_kind, rows_less, columns_less, IsWireAt, Listed, View}
+use Rattle.fabric_planes.proofs.Prelude.{ℕ, ◌≡◌, ◌+◌, ◌-◌, ◌*◌, ◌^◌, ◌<◌, ◌≤◌, ◌⊎◌, true, Bool, List, [], map, min, inl, inr, refl, sym, ap, subst, ◌∙◌, arith, slice_index, slice_index_or, cases_eq, cases_lt, eq-eqb, ne_eqb, length-map-range_with_len, get_or-map-range_with_len, mul-le, mul-add-lt, div-mul-add, mod-mul-add, NodeKind, Sink, Node, IsWire, is_node, is_slot, node_at_offset, Basis, IsBasis, graph_of, make_node, index_of, column_of, wire_beside, arrival_if, arrival_for, arrival_at, row_count, first_row, first_rows, AreRowsBelow, base_of, row_of, seen_from, shown_ends, Terminals, band_of, AreArrivals, ends_in, IsAtSide, columns_less, IsWireAt, Listed, View}
 use Rattle.fabric_planes.proofs.Alike.{columns_alike, node_moved, not_moved, wire_row_moved}
 use Rattle.fabric_planes.proofs.PinsRowed.{IsPin, pin_facts, sink_few}
 use Rattle.fabric_planes.proofs.Strips.{node_slot, lawful, track_low}
@@ -66,10 +66,7 @@ module _ {basis : Basis} (is : IsBasis basis) (sink : Node) (there : is_node bas
       omega (arith, m, e, f, low)
 
   few_rows : row_count basis ≤ 2 ^ 20
-  few_rows =
-      let sites : band_of basis * basis.strip.io_rat ≤ 66 * 8 = mul-le (band_of basis) basis.strip.io_rat 66 8 (omega (arith, is.strip.rows.1)) (omega (arith, is.strip.io_rat.1)) in
-      let m : row_count basis ≤ 66 * 8 * 16 * 64 = mul-le (band_of basis * basis.strip.io_rat * 16) basis.arch.tracks (66 * 8 * 16) 64 (omega (arith, sites)) (omega (arith, is.arch.tracks.1)) in
-      omega (arith, m)
+  few_rows = grind arith
 
   first_is : (side : ℕ) → side < 4 → slice_index (first_rows basis sink) side ≡ first_row basis sink side
   first_is side four = get_or-map-range_with_len (first_row basis sink) 0 4 side side 0 four (omega arith)
@@ -84,10 +81,7 @@ module _ {basis : Basis} (is : IsBasis basis) (sink : Node) (there : is_node bas
   sink_is = ap (λ (k : NodeKind). make_node sink.x k sink.y sink.n) kind ∙ ap (λ (x : ℕ). make_node x Sink sink.y sink.n) (sym column.column)
 
   column_some : 1 ≤ model.x
-  column_some = elim column.inner [
-    | inl own ↦ omega (arith, own, column.column, facts.from)
-    | inr inside ↦ omega (arith, inside.0)
-  ]
+  column_some = grind arith
 
   arrival_is : (side track : ℕ) → side < 4 → track < basis.arch.tracks → arrival_at basis (row_number side track) ≡ arrival_if true model side track
   unfolding row_number
@@ -103,11 +97,7 @@ module _ {basis : Basis} (is : IsBasis basis) (sink : Node) (there : is_node bas
     beside_x = omega (arith, at.column, column.column, column_few side model.x column_some)
 
     wire_is : node_at_offset column.apart beside ≡ wire
-    wire_is =
-        let y : sink.y - rows_less side ≡ wire.y = omega (arith, at.row) in
-        ap (λ (x : ℕ). make_node x (side_kind side) (sink.y - rows_less side) wire.n) beside_x
-        ∙ (ap (λ (y : ℕ). make_node wire.x (side_kind side) y wire.n) y
-        ∙ ap (λ (k : NodeKind). make_node wire.x k wire.y wire.n) (sym at.kind_is))
+    wire_is = grind (arith, beside_x)
 
     -- the strip has the wire
     inside : (column.apart ≡ 0) ⊎ ((2 ≤ beside.x) × (beside.x + column.apart < basis.strip.width))

@@ -1,6 +1,6 @@
 -- Lower bounds of ways in a plane, from what is known of the places before the sink.
-use Rattle.fabric_planes.proofs.Prelude.{◌≡◌, ℕ, ◌+◌, ◌*◌, ◌<◌, ◌≤◌, ◌⊎◌, List, [], ◌∷◌, min, refl, sym, ap, ◌∙◌, subst, inl, inr, arith, true, sum_by, slice_index, eqb-true, All-contains, sum_by-cons, NodeKind, Source, Sink, Opin, Ipin, ChanX, ChanY, Node, IsWire, Basis, IsBasis, graph_of, Leads, IsFamily, AreAheads, AreSides, AreLeast, HaveBounds, IsPinPlace, wires_apart, node_at, family_of, IsWireOf, Terminals, pins_of, in_column, offset_of, place_of, place_count, shows, labels_of, planes_of, IsNetSearch, side_kind, rows_less, columns_less, IsAtSide, IsBySide}
-use Rattle.fabric_planes.proofs.Labeled.{shown_at, is_family}
+use Rattle.fabric_planes.proofs.Prelude.{◌≡◌, ℕ, ◌+◌, ◌*◌, ◌<◌, ◌≤◌, ◌⊎◌, List, [], ◌∷◌, min, refl, sym, ap, ◌∙◌, subst, inl, inr, arith, true, sum_by, slice_index, eqb-true, sum_by-cons, NodeKind, Source, Sink, Opin, Ipin, ChanX, ChanY, Node, IsWire, Basis, IsBasis, graph_of, Leads, AreAheads, AreSides, AreLeast, HaveBounds, IsPinPlace, wires_apart, node_at, family_of, IsWireOf, Terminals, pins_of, in_column, offset_of, place_of, place_count, shows, labels_of, planes_of, IsNetSearch, IsAtSide, IsBySide}
+use Rattle.fabric_planes.proofs.Labeled.{shown_at}
 use Rattle.fabric_planes.proofs.Nearer.{no_wires}
 use Rattle.fabric_planes.proofs.PlaneWays.{way_there, wire_way}
 use Rattle.fabric_planes.proofs.Strips.{IsSlot, lawful, are_labels, slot_facts, node_slot, node_column}
@@ -11,12 +11,8 @@ use Rattle.fabric_planes.proofs.Strips.{IsSlot, lawful, are_labels, slot_facts, 
 different : ChanX ≡ ChanY → ⊥
 different e = cc
 
--- the number of a side, from its kind and from what is less there
-side_from : (kind : NodeKind) (s : ℕ) → s < 4 → kind ≡ side_kind s → (kind ≡ ChanX) × (s ≡ rows_less s) ⊎ (kind ≡ ChanY) × (s ≡ 2 + columns_less s)
-side_from kind s b e = grind arith
-
 pub one_side : (sink : Node) (s r : ℕ) (kind : NodeKind) (x y : ℕ) → IsAtSide sink s kind x y → IsAtSide sink r kind x y → s ≡ r
-one_side sink s r kind x y a b = grind (arith, side_from)
+one_side sink s r kind x y a b = search arith
 
 -- the wires are one, or a way has one more
 apart_cases : (a b : Node) → ((a.kind ≡ b.kind) × (a.x ≡ b.x) × (a.y ≡ b.y)) ⊎ (1 ≤ wires_apart a b)
@@ -53,16 +49,7 @@ module _ (basis : Basis) (sink : Node) where
       → IsWireOf basis place number → (node number).n ≡ track
       → IsBySide basis number sink (λ side. slice_index pins side) (λ side track. slice_index lasts (side * basis.arch.tracks + track)) sum
       → slice_index aheads place + slice_index least track ≤ sum
-  far_low pins lasts least aheads track place number sum are low few some w track_is by = elim by.far [
-    | inl own ↦
-        let none : slice_index aheads place ≤ 0 = subst (λ d. slice_index aheads place ≤ d) (no_wires (node number)) (are.wires place number by.side number w w.wire own) in
-        absurd (some (omega (arith, none)))
-    | inr far ↦
-        let ahead = are.wires place number by.side by.last w by.wire by.at in
-        let least_low : slice_index least track ≤ slice_index lasts (by.side * basis.arch.tracks + track) = low.low by.side track by.at.few few in
-        let last : slice_index least track ≤ slice_index lasts (by.side * basis.arch.tracks + (node number).n) = subst (λ n. slice_index least track ≤ slice_index lasts (by.side * basis.arch.tracks + n)) (sym track_is) least_low in
-        omega (arith, far, ahead, last)
-  ]
+  far_low pins lasts least aheads track place number sum are low few some w track_is by = grind (arith, no_wires (node number))
 
 -- ---- places of pins
 
@@ -77,9 +64,7 @@ module _ {basis : Basis} (is : IsBasis basis) (t : Terminals) where
   IsShownThere track place ChanY number = IsWireOf basis place number × (((graph_of basis).node number).n ≡ track)
 
   slot_at : (number : ℕ) → number < (graph_of basis).count → (kind : NodeKind) → ((graph_of basis).node number).kind ≡ kind → IsSlot basis kind ((graph_of basis).node number)
-  slot_at number b kind k =
-      subst (λ (kind : NodeKind). IsSlot basis kind ((graph_of basis).node number)) k
-      (slot_facts basis ((graph_of basis).node number).kind ((graph_of basis).node number) (node_slot basis ((graph_of basis).node number) ((lawful is).nodes number b)))
+  slot_at number b kind k = grind (arith, node_slot, lawful, slot_facts basis ((graph_of basis).node number).kind ((graph_of basis).node number) (node_slot basis ((graph_of basis).node number) ((lawful is).nodes number b)), node_slot basis ((graph_of basis).node number) ((lawful is).nodes number b), lawful is)
 
   column_at : (number : ℕ) → number < (graph_of basis).count → ((graph_of basis).node number).x ≤ basis.strip.width
   column_at number b = node_column basis ((graph_of basis).node number) ((lawful is).nodes number b)
@@ -150,11 +135,7 @@ module _ {basis : Basis} (is : IsBasis basis) (t : Terminals) where
         → place < place_count basis → (place ≡ (planes_of basis cost starts goal t).exit → ⊥) → 1 ≤ Sum track rest
     unfolding family_of labels_of
     some_cost track place few [] way b other = absurd (other way)
-    some_cost track place few (x ∷ xs) way b other =
-        let family : IsFamily (planes_of basis cost starts goal t) = is_family (labels_of basis cost starts goal t) (are_labels is cost starts goal t search) in
-        let lawful' = (family.planes track few).lawful in
-        let below = All-contains (λ (v : ℕ). v < (planes_of basis cost starts goal t).places) (((planes_of basis cost starts goal t).plane track).ends place) x (lawful'.ends_below place b) way.0 in
-        omega (arith, sum_by-cons ((planes_of basis cost starts goal t).plane track).cost x xs, lawful'.cost_from x below)
+    some_cost track place few (x ∷ xs) way b other = grind (arith, sum_by-cons ((planes_of basis cost starts goal t).plane track).cost x xs)
 
     exit_place : (exit : ℕ) → exit ≡ place_of basis t.sink → exit ≡ (planes_of basis cost starts goal t).exit
     unfolding family_of labels_of

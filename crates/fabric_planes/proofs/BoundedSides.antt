@@ -20,13 +20,9 @@ row_fits place places tracks less = elim (cases_lt place places) [
 before_side : (tracks side other n : ℕ) → other < side → n < tracks → other * tracks + n < side * tracks
 before_side tracks side other n less few = grind arith
 
--- each number is few, also one that is not there
-few_at : (xs : List ℕ) (k : ℕ) → All (λ bound. bound ≤ 20000) xs → slice_index xs k ≤ 20000
-few_at xs k few = grind (arith, get_or_past)
-
 -- no side yet
 pub no_side : (tracks : ℕ) (sides by_place pins lasts : List ℕ) → length lasts ≡ 4 * tracks → All (λ bound. bound ≤ 20000) lasts → AreSidesBounded tracks sides by_place pins 0 lasts
-no_side tracks sides by_place pins lasts long few = record { long = long; here = λ side n less few within. absurd (omega (arith, less)); few = λ k. few_at lasts k few }
+no_side tracks sides by_place pins lasts long few = grind (arith, get_or_past)
 
 -- one more side
 pub one_side_more : (tracks side : ℕ) (sides by_place pins old new : List ℕ) → AreSidesBounded tracks sides by_place pins side old → IsSideBounded tracks side (slice_index sides side) by_place (slice_index pins side) old new

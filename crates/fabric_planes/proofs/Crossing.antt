@@ -18,18 +18,8 @@ module _ {basis : Basis} (is : IsBasis basis) {cost : ℕ → ℕ} (costs : AreC
     pub sum : sum_by cost rest ≡ cost goal
 
   pin_way : (rest : List ℕ) (pin : ℕ) → pin < (graph_of basis).count → (node pin).kind ≡ Ipin → Leads (graph_at basis cost) goal pin rest → IsPinWay pin rest
-  pin_way [] pin b k l = absurd (none (sym k ∙ (ap (λ v. (node v).kind) l ∙ kind)))
-    where
-      none : Ipin ≡ Sink → ⊥
-      none q = cc
-  pin_way (j ∷ rest) pin b k l =
-      let r = edge_reached is pin j b l.0 in
-      let s = from_pin basis.strip (node j).kind (node pin) (node j) (subst (λ k. IsReached basis.strip k (node j).kind (node pin) (node j)) k r.1) in
-      let e = sink_last is cost goal rest j r.0 s.0 l.1 in
-      record {
-        own = subst (λ v. is_together basis.strip (node pin) (node v) ≡ true) e.0 s.1;
-        sum = subst (λ (rest : List ℕ). sum_by cost (j ∷ rest) ≡ cost goal) (sym e.1) (omega (arith, sum_by-cons cost j [], ap cost e.0));
-      }
+  pin_way [] pin b k l = grind arith
+  pin_way (j ∷ rest) pin b k l = grind (arith, sink_last, edge_reached is pin j b l.0)
 
   abbrev Way : ℕ → List ℕ → Type 0
   Way i rest = IsWayOver basis cost goal i rest
@@ -90,9 +80,7 @@ module _ {basis : Basis} (is : IsBasis basis) {cost : ℕ → ℕ} (costs : AreC
   ways : (rest : List ℕ) → Ways rest
   unfolding Ways
   ways [] i w l = absurd (subst IsWire (ap (λ v. (node v).kind) l ∙ kind) w.wire)
-  ways (j ∷ rest) i w l =
-      let r = edge_reached is i j w.within l.0 in
-      way_more (node j).kind i j rest refl w l.0 r.0 r.1 l.1 (ways rest)
+  ways (j ∷ rest) i w l = grind (arith, edge_reached, way_more, ways rest)
 
   pub way_over : (rest : List ℕ) (i : ℕ) → IsWireAt basis i → Leads (graph_at basis cost) goal i rest → IsWayOver basis cost goal i rest
   unfolding Ways

@@ -1,5 +1,5 @@
 -- What the tables of distances tell of places.
-use Rattle.fabric_planes.proofs.Prelude.{◌≡◌, ℕ, ◌+◌, ◌-◌, ◌*◌, ◌/◌, ◌%◌, ◌<◌, ◌≤◌, length, take, drop, min, refl, sym, ap, ◌∙◌, arith, ◌==◌, slice_index, lt-ltb, le-leb, le-ltb, div-mul-add, mod-mul-add, mul-le, get_or-map-range_with_len, length-map-range_with_len, get_or-take, get_or-drop, NodeKind, Source, Sink, Opin, Ipin, ChanX, ChanY, IsWire, Basis, make_node, Target, Level, Upright, Block, south_of, wires_by, MOST_FAR, wires_to, far_at, far_count, far_table, shift_of, IsPlaced, IsTarget, IsTargetAt, target_at, target_offset, index_from, band_of, level_at, upright_at, stride_of, in_column, place_of, place_count}
+use Rattle.fabric_planes.proofs.Prelude.{◌≡◌, ℕ, ◌+◌, ◌-◌, ◌*◌, ◌<◌, ◌≤◌, length, take, drop, min, ap, ◌∙◌, arith, ◌==◌, slice_index, lt-ltb, le-leb, le-ltb, div-mul-add, mod-mul-add, mul-le, get_or-map-range_with_len, length-map-range_with_len, get_or-take, get_or-drop, NodeKind, Source, Sink, Opin, Ipin, ChanX, ChanY, IsWire, Basis, make_node, Target, Level, Upright, Block, south_of, wires_by, MOST_FAR, wires_to, far_at, far_table, shift_of, IsPlaced, IsTarget, IsTargetAt, target_at, target_offset, index_from, band_of, level_at, upright_at, stride_of, in_column, place_of, place_count}
 use Rattle.fabric_planes.proofs.Offsets.{place_below}
 
 -- ---- a move of both wires
@@ -50,9 +50,7 @@ module _ (basis : Basis) where
       e ∙ (ap (λ (v : ℕ). v * s) n ∙ f)
 
   target_few : (target : Target) → target_offset basis target + band_of basis ≤ stride_of basis
-  target_few Level = omega arith
-  target_few Upright = omega arith
-  target_few Block = omega arith
+  target_few target = grind arith
 
   pub target_low : (target : Target) (u v : ℕ) → IsTarget basis target u v → target_at basis target u v < place_count basis
   target_low target u v t = place_below basis u (target_offset basis target + v) t.x (omega (arith, target_few target, t.y))
@@ -77,46 +75,22 @@ module _ (basis : Basis) where
   index_is Block ChanX x y u v w lu ly lv = let e = columns x u (omega (arith, lu)) in omega (arith, e, below u lu, next u, ly, lv)
   index_is Block ChanY x y u v w lu ly lv = let e = columns x u (omega (arith, lu)) in omega (arith, e, below u lu, next u, ly, lv)
 
-  wire_place : (ka : NodeKind) (x y n : ℕ) → IsWire ka → place_of basis (make_node x ka y n) ≡ in_column basis x (start_of ka + y)
-  wire_place ChanX x y n w = refl
-  wire_place ChanY x y n w = refl
-  wire_place _ x y n w = absurd w
-
   row_few : (ka : NodeKind) (y v : ℕ) → IsWire ka → y + 2 ≤ band_of basis → y + row_of ka (band_of basis) - v < stride_of basis
-  row_few ChanX y v w ly = omega (arith, ly)
-  row_few ChanY y v w ly = omega (arith, ly)
-  row_few _ y v w ly = absurd w
+  row_few ka y v w ly = grind arith
 
   -- the table tells the distance of each wire
   pub far_told : (target : Target) (ka : NodeKind) (x y n u v : ℕ) → IsWire ka → x ≤ basis.strip.width → y ≤ basis.strip.rows → u ≤ basis.strip.width → v ≤ basis.strip.rows + 1 → IsPlaced target u v
       → slice_index (far_table target K (band_of basis) (stride_of basis)) (index_from basis target (place_of basis (make_node x ka y n)) (target_at basis target u v)) ≡ min MOST_FAR (wires_to target ka x y u v)
-  far_told target ka x y n u v w lx ly lu lv p =
-      ap (λ (place : ℕ). slice_index (far_table target K (band_of basis) (stride_of basis)) (index_from basis target place (target_at basis target u v))) (wire_place ka x y n w)
-      ∙ (ap (slice_index (far_table target K (band_of basis) (stride_of basis))) (index_is target ka x y u v w (omega (arith, lu)) (omega (arith, ly)) (omega (arith, lv)))
-      ∙ (entry_at target K (band_of basis) (stride_of basis) (x + K - u) (y + row_of ka (band_of basis) - v) (row_few ka y v w (omega (arith, ly))) (omega (arith, lx))
-      ∙ entry_moved target ka x y u v K (band_of basis) w (omega (arith, lu)) (omega (arith, ly)) (omega (arith, lv)) p))
-
-  shift_few : (target : Target) → shift_of target (band_of basis) ≤ stride_of basis
-  shift_few Level = omega arith
-  shift_few _ = omega arith
+  far_told target ka x y n u v w lx ly lu lv p = grind (arith, entry_at, row_few, entry_moved, index_is target ka x y u v w (omega (arith, lu)) (omega (arith, ly)) (omega (arith, lv)), entry_at target K (band_of basis) (stride_of basis) (x + K - u) (y + row_of ka (band_of basis) - v) (row_few ka y v w (omega (arith, ly))) (omega (arith, lx)), row_few ka y v w (omega (arith, ly)), entry_moved target ka x y u v K (band_of basis) w (omega (arith, lu)) (omega (arith, ly)) (omega (arith, lv)) p)
 
   -- the part of the table for a target's place
   pub part_within : (target : Target) (place first : ℕ) → place < place_count basis → first ≡ place_count basis + shift_of target (band_of basis) - place → first + place_count basis ≤ length (far_table target K (band_of basis) (stride_of basis))
-  part_within target place first b e =
-      let s : ℕ = stride_of basis in
-      let long : length (far_table target K (band_of basis) s) ≡ far_count K s = length-map-range_with_len (λ at. far_at target K (band_of basis) (at / s) (at % s)) 0 (far_count K s) in
-      let twice : far_count K s ≡ K * s + K * s + s = grind arith in
-      omega (arith, e, long, twice, shift_few target)
+  part_within target place first b e = grind (arith, length-map-range_with_len)
 
   pub part_told : (target : Target) (place first count u v : ℕ) (ka : NodeKind) (x y n : ℕ) → first ≡ place_count basis + shift_of target (band_of basis) - place → count ≡ place_count basis → IsTargetAt basis target place u v
       → IsWire ka → x ≤ basis.strip.width → y ≤ basis.strip.rows → place_of basis (make_node x ka y n) < place_count basis
       → slice_index (take (first + count - first) (drop first (far_table target K (band_of basis) (stride_of basis)))) (place_of basis (make_node x ka y n)) ≡ min MOST_FAR (wires_to target ka x y u v)
-  part_told target place first count u v ka x y n e many t w lx ly b =
-      let table = far_table target K (band_of basis) (stride_of basis) in
-      let p = place_of basis (make_node x ka y n) in
-      let index : first + p ≡ index_from basis target p (target_at basis target u v) = omega (arith, e, t.is_at) in
-      get_or-take (first + count - first) (drop first table) p 0 (omega (arith, many, b))
-      ∙ (get_or-drop first table p 0 ∙ (ap (slice_index table) index ∙ far_told target ka x y n u v w lx ly t.x t.y t.placed))
+  part_told target place first count u v ka x y n e many t w lx ly b = grind (arith, get_or-take, get_or-drop, far_told target ka x y n u v w lx ly t.x t.y t.placed)
 
   -- the table tells nothing of the places of pins
   pin_index : (target : Target) (x u v o : ℕ) → u + 3 ≤ K → v < band_of basis → o < level_at basis
@@ -136,17 +110,9 @@ module _ (basis : Basis) where
 
   pub nothing_told : (target : Target) (x u v o : ℕ) → x ≤ basis.strip.width → u ≤ basis.strip.width → v ≤ basis.strip.rows + 1 → o + band_of basis < level_at basis
       → slice_index (far_table target K (band_of basis) (stride_of basis)) (index_from basis target (in_column basis x o) (target_at basis target u v)) ≡ 0
-  nothing_told target x u v o lx lu lv lo =
-      ap (slice_index (far_table target K (band_of basis) (stride_of basis))) (sym (pin_index target x u v o (omega (arith, lu)) (omega (arith, lv)) (omega (arith, lo))))
-      ∙ (entry_at target K (band_of basis) (stride_of basis) (x + K - u - 1) (o + 5 * band_of basis - v) (omega (arith, lo)) (omega (arith, lx))
-      ∙ rw (le-leb (4 * band_of basis) (o + 5 * band_of basis - v) (omega (arith, lv))) refl)
+  nothing_told target x u v o lx lu lv lo = grind (arith, entry_at, le-leb, pin_index target x u v o (omega (arith, lu)) (omega (arith, lv)) (omega (arith, lo)), entry_at target K (band_of basis) (stride_of basis) (x + K - u - 1) (o + 5 * band_of basis - v) (omega (arith, lo)) (omega (arith, lx)), le-leb (4 * band_of basis) (o + 5 * band_of basis - v) (omega (arith, lv)))
 
   pub part_nothing : (target : Target) (place first count u v x o : ℕ) → first ≡ place_count basis + shift_of target (band_of basis) - place → count ≡ place_count basis → IsTargetAt basis target place u v
       → x ≤ basis.strip.width → o + band_of basis < level_at basis → in_column basis x o < place_count basis
       → slice_index (take (first + count - first) (drop first (far_table target K (band_of basis) (stride_of basis)))) (in_column basis x o) ≡ 0
-  part_nothing target place first count u v x o e many t lx lo b =
-      let table = far_table target K (band_of basis) (stride_of basis) in
-      let p = in_column basis x o in
-      let index : first + p ≡ index_from basis target p (target_at basis target u v) = omega (arith, e, t.is_at) in
-      get_or-take (first + count - first) (drop first table) p 0 (omega (arith, many, b))
-      ∙ (get_or-drop first table p 0 ∙ (ap (slice_index table) index ∙ nothing_told target x u v o lx t.x t.y lo))
+  part_nothing target place first count u v x o e many t lx lo b = grind (arith, get_or-take, get_or-drop, nothing_told target x u v o lx t.x t.y lo)

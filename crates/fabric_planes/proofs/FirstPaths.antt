@@ -1,5 +1,5 @@
 -- Bounds of the paths of a track's plane, by the starts from which they lead.
-use Rattle.fabric_planes.proofs.Prelude.{◌≡◌, ℕ, ◌+◌, ◌<◌, ◌≤◌, List, ◌++◌, length, take, drop, sym, ◌∙◌, subst, inl, inr, arith, Contains, slice_index, sum_by, take_at, All-contains, Node, Basis, IsBasis, graph_of, Leads, cost_of, Family, IsPlaneBound, IsWireBound, IsWireOf, Terminals, IsNetSearch, IsStart, place_of, planes_of, AreRivalsFrom, IsOtherPath, IsPinPath, IsSourcePath, IsWirePath, Head}
+use Rattle.fabric_planes.proofs.Prelude.{◌≡◌, ℕ, ◌+◌, ◌<◌, ◌≤◌, List, ◌++◌, length, take, drop, sym, ◌∙◌, subst, inl, inr, arith, Contains, slice_index, sum_by, take_at, All-contains, Node, Basis, IsBasis, graph_of, Leads, cost_of, Family, IsPlaneBound, IsWireBound, IsWireOf, Terminals, IsNetSearch, IsStart, planes_of, AreRivalsFrom, IsOtherPath, IsPinPath, IsSourcePath, IsWirePath, Head}
 use Rattle.fabric_planes.proofs.Heads.{plane_head}
 use Rattle.fabric_planes.proofs.RivalPaths.{met_somewhere, source_pin}
 
@@ -20,17 +20,10 @@ module _ {basis : Basis} (is : IsBasis basis) (t : Terminals) (cost : ℕ → �
     -- a bound of the ways from a wire is one of those on its track
     pub over_bound : (wire place more : ℕ) (way : List ℕ) → IsWireOf basis place wire → (node wire).n ≡ track → IsWireBound basis cost F more wire (slice_index bounds (node wire).n) → Leads (F.plane track) F.exit place way
         → slice_index bounds track ≤ more + (cost wire + sum_by (F.plane track).cost way)
-    over_bound wire place more way w n low leads =
-        let led : Leads (F.plane (node wire).n) F.exit (place_of basis (node wire)) way = subst (λ (n : ℕ). Leads (F.plane n) F.exit (place_of basis (node wire)) way) (sym n) (subst (λ (p : ℕ). Leads (F.plane track) F.exit p way) (sym w.is_at) leads) in
-        subst (λ (n : ℕ). slice_index bounds n ≤ more + (cost wire + sum_by (F.plane n).cost way)) n (low way led)
+    over_bound wire place more way w n low leads = grind arith
 
     pub wire_path : (path : List ℕ) (h : IsWirePath basis starts F track path) → From h.head.start → h.head.start < head.start → slice_index bounds track ≤ cost_of (F.plane track) path
-    wire_path path h from first =
-        let n : (node h.head.start).n ≡ track = h.is.track ∙ h.on in
-        let led : Leads (F.plane (node h.head.start).n) F.exit (place_of basis (node h.head.start)) h.way =
-        subst (λ (n : ℕ). Leads (F.plane n) F.exit (place_of basis (node h.head.start)) h.way) (sym n) (subst (λ (p : ℕ). Leads (F.plane track) F.exit p h.way) (sym h.is.wire_is.is_at) h.leads) in
-        let low : slice_index bounds track ≤ sum_by (F.plane track).cost h.way = subst (λ (n : ℕ). slice_index bounds n ≤ sum_by (F.plane n).cost h.way) n (from.wire h.is.wire_is.wire.wire first h.way led) in
-        omega (arith, low, h.sum)
+    wire_path path h from first = grind arith
 
     pub pin_path : (path : List ℕ) (h : IsPinPath basis cost starts F track path) → From h.head.start → h.head.start < head.start → slice_index bounds track ≤ cost_of (F.plane track) path
     pin_path path h from first =

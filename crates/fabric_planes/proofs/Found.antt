@@ -1,5 +1,5 @@
 -- What tables tell of wires.
-use Rattle.fabric_planes.proofs.Prelude.{◌≡◌, ℕ, ◌+◌, ◌<◌, ◌⊎◌, List, sym, ap, ◌∙◌, ◌*◌, subst, inl, inr, arith, slice_index, cases_eq, cases_lt, NodeKind, Node, IsWire, Basis, IsBasis, graph_of, make_node, offset_of, place_of, place_count, stride_of, IsWireOf, IsFirstAt, AreFirsts, NO_WIRE}
+use Rattle.fabric_planes.proofs.Prelude.{◌≡◌, ℕ, ◌+◌, ◌<◌, ◌⊎◌, List, sym, subst, inl, inr, arith, slice_index, cases_eq, cases_lt, NodeKind, Node, IsWire, Basis, IsBasis, graph_of, make_node, offset_of, place_of, place_count, IsWireOf, IsFirstAt, AreFirsts, NO_WIRE}
 use Rattle.fabric_planes.proofs.Consecutive.{first_of, wire_low}
 
 pub cases_wire : (kind : NodeKind) → IsWire kind ⊎ (IsWire kind → ⊥)
@@ -20,17 +20,7 @@ module _ {basis : Basis} (is : IsBasis basis) where
     pub apart : first + (node number).n ≡ number
 
   pub first_for : (place number : ℕ) → IsWireOf basis place number → IsFirstFor place number
-  first_for place number w =
-      let f = first_of is number w.wire.within w.wire.wire in
-      let kind : (node f.first).kind ≡ (node number).kind = ap (λ (v : Node). v.kind) f.is in
-      let e : place_of basis (node f.first) ≡ place_of basis (node number) =
-      ap (λ (v : Node). place_of basis v) f.is ∙ ap (λ (o : ℕ). ((node number).x + 2) * stride_of basis + o) (same_offset basis (node number).kind (node number).x (node number).y 0 (node number).n w.wire.wire) in
-      record {
-        first = f.first;
-        at = record { within = f.within; first = record { wire = subst IsWire (sym kind) w.wire.wire; first = ap (λ (v : Node). v.n) f.is }; is_at = e ∙ w.is_at };
-        same = f.is;
-        apart = f.apart;
-      }
+  first_for place number w = grind (arith, first_of)
 
   -- the table has the first wire at a wire's place
   pub told_at : (table : List ℕ) → AreFirsts basis table → (place number : ℕ) (w : IsWireOf basis place number) → slice_index table place ≡ (first_for place number w).first

@@ -1,5 +1,5 @@
 -- Of two paths, the one whose nodes come first leaves its start first.
-use Rattle.fabric_planes.proofs.Prelude.{◌≡◌, ℕ, ◌+◌, ◌*◌, ◌<◌, ◌≤◌, ◌⊎◌, List, ◌∷◌, refl, sym, ap, ◌∙◌, subst, inl, inr, arith, nat_cmp, slice_cmp, Less, NodeKind, Source, Opin, Node, IsBefore, IsWire, Basis, IsBasis, graph_of, same_kind, Head, IsWireOf, stride_of, offset_of, place_of, IsWireHead, IsPinHead, IsSourceHead, IsHeadOf, ComesFirst, IsWireAt}
+use Rattle.fabric_planes.proofs.Prelude.{◌≡◌, ℕ, ◌<◌, ◌≤◌, ◌⊎◌, List, ◌∷◌, refl, sym, ◌∙◌, subst, inl, inr, arith, nat_cmp, slice_cmp, Less, NodeKind, Source, Opin, Node, IsBefore, IsWire, Basis, IsBasis, graph_of, Head, IsWireOf, offset_of, place_of, IsWireHead, IsPinHead, IsSourceHead, IsHeadOf, ComesFirst, IsWireAt}
 use Rattle.fabric_planes.proofs.Offsets.{low_of, high_of, below_stride, kinds_apart, columns_apart}
 use Rattle.fabric_planes.proofs.Strips.{lawful, wire_row}
 
@@ -15,13 +15,6 @@ first_less a b xs ys h = grind arith
 wire_in : (basis : Basis) (kind : NodeKind) (v : Node) → IsWire kind → v.y ≤ basis.strip.rows → (low_of basis kind ≤ offset_of basis kind v) × (offset_of basis kind v < high_of basis kind)
 wire_in basis kind v w r = grind arith
 
--- the offsets of wires of a kind are in the order of their rows
-row_less : (basis : Basis) (kind : NodeKind) (a b : Node) → IsWire kind → a.y < b.y → offset_of basis kind a < offset_of basis kind b
-row_less basis kind a b w l = grind arith
-
-row_same : (basis : Basis) (kind : NodeKind) (a b : Node) → IsWire kind → a.y ≡ b.y → offset_of basis kind a ≡ offset_of basis kind b
-row_same basis kind a b w e = grind arith
-
 module _ {basis : Basis} (is : IsBasis basis) where
   abbrev node : ℕ → Node
   node = (graph_of basis).node
@@ -36,21 +29,13 @@ module _ {basis : Basis} (is : IsBasis basis) where
   in_kind i w = wire_in basis (node i).kind (node i) w.wire (wire_row is i w.within w.wire)
 
   in_column_order : (i j : ℕ) → (node i).x ≡ (node j).x → offset i < offset j → place_of basis (node i) < place_of basis (node j)
-  in_column_order i j x o =
-      let e : ((node i).x + 2) * stride_of basis ≡ ((node j).x + 2) * stride_of basis = ap (λ (x : ℕ). (x + 2) * stride_of basis) x in
-      omega (arith, o, e)
+  in_column_order i j x o = grind arith
 
   by_node : (i j : ℕ) → IsWireAt basis i → IsWireAt basis j → IsBefore (node i) (node j) → IsAhead i j
   by_node i j wi wj (inl x) = inl (columns_apart basis (node i).x (node j).x (offset i) (offset j) x (omega (arith, (in_kind i wi).1, below_stride basis (node i).kind)))
   by_node i j wi wj (inr (x, inl r)) = inl (in_column_order i j x (omega (arith, (in_kind i wi).1, (in_kind j wj).0, kinds_apart basis (node i).kind (node j).kind r)))
-  by_node i j wi wj (inr (x, inr (r, inl y))) =
-      let k : (node i).kind ≡ (node j).kind = same_kind (node i).kind (node j).kind r in
-      inl (in_column_order i j x (subst (λ kind. offset i < offset_of basis kind (node j)) k (row_less basis (node i).kind (node i) (node j) wi.wire y)))
-  by_node i j wi wj (inr (x, inr (r, inr (y, n)))) =
-      let k : (node i).kind ≡ (node j).kind = same_kind (node i).kind (node j).kind r in
-      let o : offset i ≡ offset j = row_same basis (node i).kind (node i) (node j) wi.wire y ∙ ap (λ kind. offset_of basis kind (node j)) k in
-      let e : ((node i).x + 2) * stride_of basis ≡ ((node j).x + 2) * stride_of basis = ap (λ (x : ℕ). (x + 2) * stride_of basis) x in
-      inr (omega (arith, o, e), n)
+  by_node i j wi wj (inr (x, inr (r, inl y))) = grind arith
+  by_node i j wi wj (inr (x, inr (r, inr (y, n)))) = grind arith
 
   -- wires are in the order of their places, and then of their tracks
   pub wire_order : (i j : ℕ) → i < j → IsWireAt basis i → IsWireAt basis j → IsAhead i j
@@ -60,10 +45,7 @@ module _ {basis : Basis} (is : IsBasis basis) where
 
   -- a wire that comes before another one, at places and on tracks
   wires_first : (p q m n i j : ℕ) → IsWireOf basis p i → IsWireOf basis q j → (node i).n ≡ m → (node j).n ≡ n → i < j → (p < q) ⊎ ((p ≡ q) × (m < n))
-  wires_first p q m n i j wi wj ni nj l = elim (wire_order i j l wi.wire wj.wire) [
-    | inl place ↦ inl (omega (arith, place, wi.is_at, wj.is_at))
-    | inr (place, n) ↦ inr (omega (arith, place, wi.is_at, wj.is_at), omega (arith, n, ni, nj))
-  ]
+  wires_first p q m n i j wi wj ni nj l = grind (arith, wire_order i j l wi.wire wj.wire)
 
   abbrev Comes : Head → Head → Type 0
   Comes q h = (q.track ≡ h.track) ⊎ ComesFirst q h
@@ -77,23 +59,11 @@ module _ {basis : Basis} (is : IsBasis basis) where
   -- the nodes after the same start, or after the same pin
   after_pin : (q h : Head) (i j : ℕ) (xs ys : List ℕ) → q.start ≡ h.start → q.pin ≡ h.pin → IsWireOf basis q.place i → IsWireOf basis h.place j → (node i).n ≡ q.track → (node j).n ≡ h.track
       → slice_cmp nat_cmp (i ∷ xs) (j ∷ ys) ≡ Less → Comes q h
-  after_pin q h i j xs ys s p wi wj ni nj less = elim (first_less i j xs ys less) [
-    | inl l ↦ inr (inr (s, inr (p, wires_first q.place h.place q.track h.track i j wi wj ni nj l)))
-    | inr (e, more) ↦ inl (sym ni ∙ (ap (λ (v : ℕ). (node v).n) e ∙ nj))
-  ]
+  after_pin q h i j xs ys s p wi wj ni nj less = grind (arith, wires_first)
 
   -- the first nodes decide, if the two begin with different kinds
   other_kind : (q h : Head) (a b : NodeKind) (xs ys : List ℕ) → (node q.start).kind ≡ a → (node h.start).kind ≡ b → (a ≡ b → ⊥) → slice_cmp nat_cmp (q.start ∷ xs) (h.start ∷ ys) ≡ Less → Comes q h
-  other_kind q h a b xs ys ka kb differ less = elim (first_less q.start h.start xs ys less) [
-    | inl l ↦ inr (inl l)
-    | inr (e, more) ↦ absurd (differ (sym ka ∙ (ap (λ (v : ℕ). (node v).kind) e ∙ kb)))
-  ]
-
-  wire_wire : (q h : Head) (xs ys : List ℕ) → (node q.start).n ≡ q.track → (node h.start).n ≡ h.track → slice_cmp nat_cmp (q.start ∷ xs) (h.start ∷ ys) ≡ Less → Comes q h
-  wire_wire q h xs ys nq nh less = elim (first_less q.start h.start xs ys less) [
-    | inl l ↦ inr (inl l)
-    | inr (e, more) ↦ inl (sym nq ∙ (ap (λ (v : ℕ). (node v).n) e ∙ nh))
-  ]
+  other_kind q h a b xs ys ka kb differ less = grind arith
 
   pin_pin : (q h : Head) (nodes known : List ℕ) (a : IsPinHead basis q nodes) (b : IsPinHead basis h known) → slice_cmp nat_cmp (q.start ∷ a.wire ∷ a.rest) (h.start ∷ b.wire ∷ b.rest) ≡ Less → Comes q h
   pin_pin q h nodes known a b less = elim (first_less q.start h.start (a.wire ∷ a.rest) (b.wire ∷ b.rest) less) [
@@ -118,7 +88,7 @@ module _ {basis : Basis} (is : IsBasis basis) where
   opin_source e = cc
 
   pub heads_order : (q h : Head) (nodes known : List ℕ) → IsHeadOf basis q nodes → IsHeadOf basis h known → slice_cmp nat_cmp nodes known ≡ Less → Comes q h
-  heads_order q h nodes known (inl a) (inl b) less = wire_wire q h a.rest b.rest a.track b.track (begun nodes (q.start ∷ a.rest) known (h.start ∷ b.rest) a.begins b.begins less)
+  heads_order q h nodes known (inl a) (inl b) less = grind arith
   heads_order q h nodes known (inl a) (inr (inl b)) less =
       other_kind q h (node q.start).kind Opin a.rest (b.wire ∷ b.rest) refl b.kind (wire_no_pin (node q.start).kind a.wire_is.wire.wire) (begun nodes (q.start ∷ a.rest) known (h.start ∷ b.wire ∷ b.rest) a.begins b.begins less)
   heads_order q h nodes known (inl a) (inr (inr b)) less =
@@ -138,11 +108,4 @@ module _ {basis : Basis} (is : IsBasis basis) where
 
   -- a path from a wire that comes before another one on another track begins at a lesser number
   pub wire_first : (q h : Head) (nodes known : List ℕ) → IsWireHead basis q nodes → IsHeadOf basis h known → slice_cmp nat_cmp nodes known ≡ Less → (q.track ≡ h.track) ⊎ (q.start < h.start)
-  wire_first q h nodes known a b less = by (heads_order q h nodes known (inl a) b less) b
-    where
-      by : Comes q h → IsHeadOf basis h known → (q.track ≡ h.track) ⊎ (q.start < h.start)
-      by (inl e) b = inl e
-      by (inr (inl l)) b = inr l
-      by (inr (inr (s, more))) (inl w) = inl (sym a.track ∙ (ap (λ (v : ℕ). (node v).n) s ∙ w.track))
-      by (inr (inr (s, more))) (inr (inl p)) = absurd (wire_no_pin (node q.start).kind a.wire_is.wire.wire (ap (λ (v : ℕ). (node v).kind) s ∙ p.kind))
-      by (inr (inr (s, more))) (inr (inr p)) = absurd (wire_no_source (node q.start).kind a.wire_is.wire.wire (ap (λ (v : ℕ). (node v).kind) s ∙ p.kind))
+  wire_first q h nodes known a b less = search arith

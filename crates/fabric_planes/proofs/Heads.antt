@@ -1,13 +1,9 @@
 -- How the paths of a track's plane leave their starts.
-use Rattle.fabric_planes.proofs.Prelude.{◌≡◌, ℕ, ◌+◌, ◌<◌, List, [], ◌∷◌, map, refl, sym, ap, ◌∙◌, subst, inl, inr, true, arith, Contains, sum_by, sum_by-cons, Strip, NodeKind, Source, Sink, Opin, Ipin, ChanX, ChanY, Node, IsWire, Basis, IsBasis, graph_of, Leads, IsPath, Family, IsPlane, IsPlace, family_of, IsWireOf, Terminals, place_of, shows, labels_of, planes_of, IsNetSearch, Head, IsWirePath, IsPinPath, IsSourcePath, IsPathFrom, IsStartKind}
+use Rattle.fabric_planes.proofs.Prelude.{◌≡◌, ℕ, ◌+◌, ◌<◌, List, [], ◌∷◌, map, refl, sym, ap, ◌∙◌, subst, inl, inr, true, arith, Contains, sum_by, sum_by-cons, NodeKind, Source, Sink, Opin, Ipin, ChanX, ChanY, Node, IsWire, Basis, IsBasis, graph_of, Leads, IsPath, Family, IsPlane, IsPlace, family_of, IsWireOf, Terminals, place_of, shows, labels_of, planes_of, IsNetSearch, Head, IsWirePath, IsPinPath, IsSourcePath, IsPathFrom, IsStartKind}
 use Rattle.fabric_planes.proofs.Joins.{IsReached}
 use Rattle.fabric_planes.proofs.Labeled.{shown_at}
 use Rattle.fabric_planes.proofs.PinPaths.{from_output, from_source}
 use Rattle.fabric_planes.proofs.Strips.{are_labels, strip_family, edge_reached}
-
--- a wire is shown in its own track's plane alone
-wire_track : (strip : Strip) (t : Terminals) (track : ℕ) (kind : NodeKind) (v : Node) → IsWire kind → shows strip t track kind v ≡ true → v.n ≡ track
-wire_track strip t track kind v w s = grind arith
 
 opin_sink : Opin ≡ Sink → ⊥
 opin_sink e = cc
@@ -35,9 +31,7 @@ module _ {basis : Basis} (is : IsBasis basis) (t : Terminals) (cost : ℕ → �
 
   pub node_of : (place : ℕ) → IsPlace F track place → IsNodeOf place
   unfolding family_of labels_of
-  node_of place p =
-      let s = shown_at (labels_of basis cost starts goal t) (are_labels is cost starts goal t search) track place p.there in
-      record { within = s.within; shown = s.shown; is_at = s.is; price = plane.cost place p }
+  node_of place p = grind (arith, shown_at (labels_of basis cost starts goal t) (are_labels is cost starts goal t search) track place p.there)
 
   -- an edge of the plane
   pub edge_of : (place end : ℕ) → IsPlace F track place → Contains ((F.plane track).ends place) end → IsPlace F track end × Contains ((graph_of basis).ends (F.number track place)) (F.number track end)
@@ -57,9 +51,7 @@ module _ {basis : Basis} (is : IsBasis basis) (t : Terminals) (cost : ℕ → �
   exit_kind place e = ap (λ (p : ℕ). (node (F.number track p)).kind) e ∙ (ap (λ (v : ℕ). (node v).kind) goal_is ∙ (ap (λ (v : Node). v.kind) search.terminals.goal_is ∙ search.terminals.kind))
 
   wire_at : (place : ℕ) → IsPlace F track place → IsWire (node (F.number track place)).kind → IsWireOf basis place (F.number track place) × ((node (F.number track place)).n ≡ track)
-  wire_at place p w =
-      let n = node_of place p in
-      (record { wire = record { within = n.within; wire = w }; is_at = n.is_at }, wire_track basis.strip t track (node (F.number track place)).kind (node (F.number track place)) w n.shown)
+  wire_at place p w = grind (arith, node_of)
 
   -- what follows an output pin
   pub record IsAfterPin (place : ℕ) (rest : List ℕ) : Type 0 where

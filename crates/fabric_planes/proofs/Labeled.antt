@@ -1,5 +1,5 @@
 -- A graph with labeled nodes consists of the planes of its tracks.
-use Rattle.fabric_planes.proofs.Prelude.{◌≡◌, ℕ, refl, ◌^◌, ◌<◌, ◌≤◌, List, [], ◌∷◌, length, get_or, arith, ◌∙◌, inl, inr, sym, ap, subst, Bool, true, ◌&&◌, filter, Contains, range_with_len, and_parts, and_from, cases_Bool, cases_eq, cases_lt, eqb-true, eq-eqb, lt-ltb, ltb-true, false≢true, length-map, All-contains, All-contains_itself, length-range_with_len, get_or-range_with_len, passes_at_first, position_or_len_is, IsLawful, AreNodes, IsFamily, IsPlane, IsPlace, Labels, AreLabels, node_at, is_there, plane_of, family_of}
+use Rattle.fabric_planes.proofs.Prelude.{◌≡◌, ℕ, refl, ◌^◌, ◌<◌, ◌≤◌, List, [], ◌∷◌, length, get_or, arith, ◌∙◌, inl, inr, sym, ap, subst, Bool, true, ◌&&◌, filter, Contains, range_with_len, and_parts, cases_Bool, eqb-true, lt-ltb, ltb-true, false≢true, length-map, All-contains, All-contains_itself, length-range_with_len, get_or-range_with_len, passes_at_first, position_or_len_is, IsLawful, AreNodes, IsFamily, IsPlane, IsPlace, Labels, AreLabels, node_at, is_there, plane_of, family_of}
 use Rattle.std.specs.Prelude.{◌==◌}
 use Rattle.fabric_planes.specs.Labels.{places_of}
 use Rattle.fabric_planes.proofs.Members.{in_cases, in_first, in_further, in_none}
@@ -53,18 +53,7 @@ module _ (l : Labels) (are : AreLabels l) where
 
   pub at_place : (track node : ℕ) → node < l.whole.count → l.is_shown track node ≡ true → node_at l track (l.place node) ≡ node
   unfolding test
-  at_place track node b s =
-      let numbers = range_with_len 0 l.whole.count in
-      position_or_len_is (test track (l.place node)) numbers node 0 (omega (arith, length-range_with_len 0 l.whole.count, b))
-      (λ k c.
-      ap (test track (l.place node)) (range_at k (omega (arith, b, c)))
-      ∙ elim (cases_Bool (test track (l.place node) k)) [
-        | inl e ↦
-            let parts = and_parts (l.is_shown track k) (l.place k == l.place node) e in
-            absurd (omega (arith, are.order track k node c b parts.0 s, eqb-true (l.place k) (l.place node) parts.1))
-        | inr e ↦ e
-      ])
-      (λ c. ap (test track (l.place node)) (range_at node b) ∙ and_from (l.is_shown track node) (l.place node == l.place node) s (eq-eqb (l.place node) (l.place node) refl))
+  at_place track node b s = grind (arith, position_or_len_is, length-range_with_len, range_at, eqb-true, range_at node b)
 
   pub there_of : (track node : ℕ) → node < l.whole.count → l.is_shown track node ≡ true → is_there l track (l.place node) ≡ true
   there_of track node b s = rw (at_place track node b s) (lt-ltb node l.whole.count b)
@@ -103,12 +92,7 @@ module _ (l : Labels) (are : AreLabels l) where
   ]
 
   ends_short : (track place : ℕ) → length ((plane_of l track).ends place) < 2 ^ 32
-  ends_short track place = elim (cases_Bool (is_there l track place)) [
-    | inl there ↦ rw there (
-        let nodes = l.whole.ends (node_at l track place) in
-        omega (arith, length-map (filter (l.is_shown track) nodes) l.place, filter_few (l.is_shown track) nodes, are.lawful.ends_few (node_at l track place) (shown_at track place there).within))
-    | inr other ↦ rw other (omega arith)
-  ]
+  ends_short track place = grind (arith, length-map, filter_few)
 
   plane_lawful : (track : ℕ) → IsLawful (plane_of l track)
   plane_lawful track = record {
@@ -126,18 +110,7 @@ module _ (l : Labels) (are : AreLabels l) where
   }
 
   in_order : (track place other : ℕ) → is_there l track place ≡ true → is_there l track other ≡ true → place < other → node_at l track place < node_at l track other
-  in_order track place other p o b =
-      let s = shown_at track place p in
-      let t = shown_at track other o in
-      elim (cases_lt (node_at l track place) (node_at l track other)) [
-        | inl less ↦ less
-        | inr more ↦ elim (cases_eq (node_at l track place) (node_at l track other)) [
-          | inl same ↦ absurd (omega (arith, b, s.is, t.is, ap l.place same))
-          | inr different ↦
-              let down : node_at l track other < node_at l track place = omega (arith, more, different) in
-              absurd (omega (arith, b, s.is, t.is, are.order track (node_at l track other) (node_at l track place) down s.within t.shown s.shown))
-        ]
-      ]
+  in_order track place other p o b = grind (arith, shown_at)
 
   is_plane : (track : ℕ) → track < l.tracks → IsPlane (family_of l) track
   unfolding family_of
@@ -178,13 +151,4 @@ module _ (l : Labels) (are : AreLabels l) where
 
   pub is_family : IsFamily (family_of l)
   unfolding family_of
-  is_family = record {
-    lawful = are.lawful;
-    starts = are.starts;
-    goal = are.goal;
-    some = are.some;
-    few = are.few;
-    wires = are.wires;
-    stays = are.stays;
-    planes = is_plane;
-  }
+  is_family = search (is_plane, arith)

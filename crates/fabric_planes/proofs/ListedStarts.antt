@@ -1,5 +1,5 @@
 -- The starts that are in a track's plane.
-use Rattle.fabric_planes.proofs.Prelude.{◌≡◌, ℕ, zero, suc, ◌+◌, ◌<◌, ◌⊎◌, List, [], ◌∷◌, ◌++◌, length, sym, ap, ◌∙◌, subst, inl, inr, arith, true, Contains, slice_index_or, map-append, Contains-append_left, Contains-append_right, Contains-append_cases, Node, IsWire, Basis, IsBasis, graph_of, IsLowerBound, Family, IsPlaneBound, places_of, Start, PinAt, node_at, family_of, Terminals, place_of, shows, labels_of, planes_of, IsNetSearch, IsShownPin, ArePins, AreSomeStarts, AreFirsts}
+use Rattle.fabric_planes.proofs.Prelude.{◌≡◌, ℕ, ◌+◌, ◌<◌, ◌⊎◌, List, [], ◌∷◌, ◌++◌, length, sym, ap, ◌∙◌, subst, inl, inr, arith, true, Contains, slice_index_or, map-append, Contains-append_left, Contains-append_right, Contains-append_cases, Node, IsWire, Basis, IsBasis, graph_of, IsLowerBound, Family, IsPlaneBound, places_of, Start, PinAt, node_at, family_of, Terminals, place_of, shows, labels_of, planes_of, IsNetSearch, IsShownPin, ArePins, AreSomeStarts, AreFirsts}
 use Rattle.std.specs.Prelude.{Some}
 use Rattle.fabric_planes.proofs.Labeled.{at_place, has_place, place_has}
 use Rattle.fabric_planes.proofs.Numbers.{same_shows, listed_there}
@@ -58,9 +58,7 @@ module _ {basis : Basis} (is : IsBasis basis) (t : Terminals) (cost : ℕ → �
 
   pub entry_start : (track entry : ℕ) → Contains (F.entries track) entry → IsEntryOf track entry
   unfolding family_of labels_of
-  entry_start track entry c =
-      let p = place_has (labels_of basis cost starts goal t) track starts entry c in
-      record { number = p.node; contained = p.contained; shown = p.shown; at = p.is }
+  entry_start track entry c = grind (arith, place_has (labels_of basis cost starts goal t) track starts entry c)
 
   -- a bound of all paths of the plane is one of the ways from each entry
   pub entry_bound : (track entry bound : ℕ) → IsPlaneBound F track bound → Contains (F.entries track) entry → IsLowerBound (F.plane track) F.exit entry (Some bound)
@@ -69,8 +67,7 @@ module _ {basis : Basis} (is : IsBasis basis) (t : Terminals) (cost : ℕ → �
   -- ---- lists of starts
 
   only : (start other : Start) → Contains (start ∷ []) other → start ≡ other
-  only start other (zero, b, e) = e
-  only start other (suc k, b, e) = absurd (omega (arith, b))
+  only start other h1 = grind arith
 
   pub some_more : (track : ℕ) (list : List Start) (start : Start) → AreSomeStarts F track list → Contains (F.entries track) start.place → IsLowerBound (F.plane track) F.exit start.place (Some start.ahead)
       → AreSomeStarts F track (list ++ start ∷ [])

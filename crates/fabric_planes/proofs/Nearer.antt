@@ -1,5 +1,5 @@
 -- Along an edge between wires, the distance from another wire falls by at most one.
-use Rattle.fabric_planes.proofs.Prelude.{◌≡◌, ℕ, ◌+◌, ◌≤◌, ◌⊎◌, refl, inl, inr, arith, true, ◌==◌, ◌&&◌, and_from, cases_Bool, eqb-true, eq-eqb, Arch, Strip, NodeKind, ChanX, ChanY, Node, rank_of, IsWire, joins, crosses, is_next, west_of, east_of, south_of, north_of, apart_from, ends_apart, is_same_wire, wires_apart}
+use Rattle.fabric_planes.proofs.Prelude.{◌≡◌, ℕ, ◌+◌, ◌≤◌, ◌⊎◌, refl, arith, true, ◌==◌, ◌&&◌, and_from, cases_Bool, eqb-true, eq-eqb, Arch, Strip, NodeKind, ChanX, ChanY, Node, rank_of, IsWire, joins, crosses, is_next, west_of, east_of, south_of, north_of, apart_from, ends_apart, is_same_wire, wires_apart}
 
 -- ---- where wires meet
 
@@ -9,9 +9,6 @@ pub record IsCrossing (across up : Node) : Type 0 where
 
 pub crossing : (across up : Node) → crosses across up ≡ true → IsCrossing across up
 crossing across up h = grind arith
-
-pub upright_parts : (a b : Node) → ((a.n == b.n) && ((a.x == b.x) && is_next a.y b.y)) ≡ true → (a.x ≡ b.x) × ((a.y + 1 ≡ b.y) ⊎ (b.y + 1 ≡ a.y))
-upright_parts a b h = grind arith
 
 -- ---- distances
 
@@ -31,14 +28,8 @@ falls_back a b w e s n h = grind arith
 apart_falls : (arch : Arch) (strip : Strip) (ka kb : NodeKind) (a b : Node) (w e s n : ℕ) → IsWire ka → IsWire kb → joins arch strip ka kb a b ≡ true → apart_from ka a.x a.y w e s n ≤ 1 + apart_from kb b.x b.y w e s n
 apart_falls arch strip ka kb a b w e s n wa wb h = grind (arith, falls_level, falls_crossing, falls_back, falls_upright)
 
-touch_upright : (a b : Node) → ((a.n == b.n) && ((a.x == b.x) && is_next a.y b.y)) ≡ true → ends_apart ChanY a.x a.y ChanY b.x b.y ≡ 0
-touch_upright a b h = let p = upright_parts a b h in elim p.1 [ inl y ↦ omega (arith, p.0, y) | inr y ↦ omega (arith, p.0, y) ]
-
-touch_crossing : (a b : Node) → crosses a b ≡ true → (ends_apart ChanX a.x a.y ChanY b.x b.y ≡ 0) × (ends_apart ChanY b.x b.y ChanX a.x a.y ≡ 0)
-touch_crossing a b h = grind (arith, crossing)
-
 touch : (arch : Arch) (strip : Strip) (ka kb : NodeKind) (a b : Node) → IsWire ka → IsWire kb → joins arch strip ka kb a b ≡ true → ends_apart ka a.x a.y kb b.x b.y ≡ 0
-touch arch strip ka kb a b wa wb h = grind (arith, touch_crossing, touch_upright)
+touch arch strip ka kb a b wa wb h = grind (arith, crossing)
 
 -- ---- numbers of wires
 
@@ -49,8 +40,5 @@ same_parts ka xa ya kb xb yb h = grind (arith, eqb-true)
 pub no_wires : (a : Node) → wires_apart a a ≡ 0
 no_wires a = rw (and_from (rank_of a.kind == rank_of a.kind) ((a.x == a.x) && (a.y == a.y)) (eq-eqb (rank_of a.kind) (rank_of a.kind) refl) (and_from (a.x == a.x) (a.y == a.y) (eq-eqb a.x a.x refl) (eq-eqb a.y a.y refl))) refl
 
-at_most_ends : (a c : Node) → wires_apart a c ≤ 1 + ends_apart a.kind a.x a.y c.kind c.x c.y
-at_most_ends a c = grind arith
-
 pub wires_fall : (arch : Arch) (strip : Strip) (a b c : Node) → IsWire a.kind → IsWire b.kind → joins arch strip a.kind b.kind a b ≡ true → wires_apart a c ≤ 1 + wires_apart b c
-wires_fall arch strip a b c wa wb h = grind (arith, same_parts, touch, at_most_ends, apart_falls, cases_Bool (is_same_wire b.kind b.x b.y c.kind c.x c.y), touch arch strip a.kind b.kind a b wa wb h, at_most_ends a c, apart_falls arch strip a.kind b.kind a b (west_of c.kind c.x) (east_of c.x) (south_of c.kind c.y) (north_of c.y) wa wb h)
+wires_fall arch strip a b c wa wb h = grind (arith, same_parts, cases_Bool (is_same_wire b.kind b.x b.y c.kind c.x c.y), touch arch strip a.kind b.kind a b wa wb h, apart_falls arch strip a.kind b.kind a b (west_of c.kind c.x) (east_of c.x) (south_of c.kind c.y) (north_of c.y) wa wb h)

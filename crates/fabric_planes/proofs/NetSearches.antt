@@ -1,5 +1,5 @@
 -- A search over a net's planes is one over the whole graph.
-use Rattle.fabric_planes.proofs.Prelude.{ℕ, ◌<◌, List, [], ◌∷◌, All-nil, All-cons, All-contains, Graph, AreNodes, IsLawful, Leads, IsPath, Path, IsFamily, IsKnown, Basis, graph_of, family_of, Terminals, graph_at, labels_of, planes_of, IsPathAt}
+use Rattle.fabric_planes.proofs.Prelude.{arith, ℕ, ◌<◌, List, [], ◌∷◌, All-nil, All-cons, All-contains, Graph, AreNodes, IsLawful, Leads, IsPath, Path, IsFamily, IsKnown, Basis, graph_of, family_of, Terminals, graph_at, labels_of, planes_of, IsPathAt}
 use Rattle.std.specs.List.{All}
 
 -- the nodes of a path are nodes of the graph
@@ -11,10 +11,7 @@ module _ (g : Graph) (lawful : IsLawful g) (goal : ℕ) where
       All-cons (λ n. n < g.count) next rest there (way_within next rest there leads.1)
 
   path_within : (starts path : List ℕ) → AreNodes g starts → IsPath g starts goal path → AreNodes g path
-  path_within starts [] are p = absurd p
-  path_within starts (start ∷ rest) are p =
-      let here : start < g.count = All-contains (λ n. n < g.count) starts start are p.0 in
-      All-cons (λ n. n < g.count) start rest here (way_within start rest here p.1)
+  path_within starts path are p = grind (arith, way_within)
 
 module _ (basis : Basis) (cost : ℕ → ℕ) (starts : List ℕ) (goal : ℕ) (t : Terminals) where
   pub known_in : (path : Path) → IsPathAt basis cost starts goal path → IsKnown (planes_of basis cost starts goal t) path

@@ -43,8 +43,7 @@ module _ {basis : Basis} (is : IsBasis basis) where
 
   -- the table has a number for the place of a wire, and none for that of a pin
   pub number_some : (firsts : List ℕ) → AreFirsts basis firsts → (place number : ℕ) → IsWireOf basis place number → slice_index firsts place ≡ NO_WIRE → ⊥
-  number_some firsts told place number w e =
-      omega (arith, told_at is firsts told place number w, (first_for is place number w).at.within, few_nodes basis is, e)
+  number_some firsts told place number w e = grind (arith, first_for, few_nodes, told_at is firsts told place number w, first_for is place number w, few_nodes basis is)
 
   number_none : (firsts : List ℕ) → AreFirsts basis firsts → (place x offset : ℕ) → place < place_count basis → IsPinPlace basis x offset → place ≡ in_column basis x offset → slice_index firsts place ≡ NO_WIRE
   number_none firsts told place x offset b pin at = elim (firsts_cases is firsts told place b) [
@@ -158,10 +157,7 @@ module _ {basis : Basis} (is : IsBasis basis) where
 
     -- the table has no number for the place, so if something is there, it is a pin
     pub pin_there : (track place : ℕ) → place < place_count basis → slice_index firsts place ≡ NO_WIRE → is_there (labels_of basis cost starts goal t) track place ≡ true → IsPinThere track place
-    pin_there track place b none there = elim (there_cases track place there b) [
-      | inl w ↦ absurd (number_some firsts told place w.number w.wire none)
-      | inr p ↦ p
-    ]
+    pin_there track place b none there = grind (arith, number_some, there_cases track place there b)
 
     module _ (pins : List PinAt) (are_pins : ArePins basis t pins) where
       -- a listed pin is at its place
@@ -229,10 +225,7 @@ module _ {basis : Basis} (is : IsBasis basis) where
       pin_low track place number found = (listed_there track place number found).2
 
       pub no_cost : (track place : ℕ) → place < place_count basis → slice_index firsts place ≡ NO_WIRE → ((k : ℕ) (d : PinAt) → k < length pins → (slice_index_or pins k d).place ≡ place → ⊥) → 1 ≡ ((planes_of basis cost starts goal t).plane track).cost place
-      no_cost track place b none unlisted = elim (cases_Bool (is_there (labels_of basis cost starts goal t) track place)) [
-        | inl there ↦ absurd (none_listed track place unlisted (pin_there track place b none there))
-        | inr nothing ↦ sym (cost_nothing track place nothing)
-      ]
+      no_cost track place b none unlisted = grind (arith, pin_there, cost_nothing)
 
       -- a price that is told
       pub price_is : (prices : List ℕ) → ArePrices basis cost prices → (track place : ℕ) → track < basis.arch.tracks → place < place_count basis → (slice_index prices (track * place_count basis + place) ≡ 255 → ⊥)

@@ -1,11 +1,11 @@
 -- The rows of a pin are its ends in each plane.
-use Rattle.fabric_planes.proofs.Prelude.{◌≡◌, ℕ, ◌+◌, ◌-◌, ◌*◌, ◌%◌, ◌^◌, ◌<◌, ◌≤◌, List, [], ◌∷◌, length, map, refl, sym, ap, ◌∙◌, subst, inl, inr, arith, true, ◌==◌, ◌&&◌, ◌||◌, nat_le, slice_index_or, nat_lt, if◌then◌else◌, and_parts, or_cases, cases_Bool, eqb-true, leb-true, ltb-true, nat_tests, div-mul-add, mod-mul-add, mul-add-lt, mul-le, few_pins, clock_count, Pin, NodeKind, Source, Sink, Opin, Ipin, ChanX, ChanY, Node, IsWire, is_node, is_slot, is_chan_y, is_pad_row, is_block_row, is_together, joins, node_at_offset, Basis, IsBasis, graph_of, make_node, member_bounds, Listed, View, PinAt, AreRowsBelow, base_of, row_of, seen_from, shown_ends, plane_of, family_of, Terminals, pins_of, band_of, place_of, shows, labels_of, planes_of, AreTerminals, IsNetSearch, kind_at, rows_per_track, listed_by, listed_in, listed_at, pin_number, IsShownPin, HasEnds, ends_in}
+use Rattle.fabric_planes.proofs.Prelude.{◌≡◌, ℕ, ◌+◌, ◌-◌, ◌*◌, ◌^◌, ◌<◌, ◌≤◌, List, [], ◌∷◌, length, map, sym, ap, ◌∙◌, subst, arith, true, ◌||◌, nat_le, slice_index_or, if◌then◌else◌, and_parts, eqb-true, leb-true, nat_tests, div-mul-add, mod-mul-add, mul-add-lt, few_pins, clock_count, Pin, NodeKind, Source, Sink, Opin, Ipin, ChanX, ChanY, Node, IsWire, is_node, is_slot, is_chan_y, is_block_row, joins, node_at_offset, Basis, IsBasis, graph_of, make_node, member_bounds, Listed, View, PinAt, AreRowsBelow, base_of, row_of, seen_from, shown_ends, plane_of, family_of, Terminals, pins_of, band_of, place_of, shows, labels_of, planes_of, AreTerminals, IsNetSearch, kind_at, rows_per_track, listed_by, listed_at, pin_number, IsShownPin, HasEnds, ends_in}
 use Rattle.fabric_planes.specs.PinRows.{index_of, row_count, first_row}
 use Rattle.fabric_planes.proofs.Alike.{node_moved, pins_alike, wire_row_moved}
 use Rattle.fabric_planes.proofs.Joins.{IsReached, reached}
 use Rattle.fabric_planes.proofs.Numbers.{same_shows}
 use Rattle.fabric_planes.proofs.PlaneEnds.{plane_shows}
-use Rattle.fabric_planes.proofs.Strips.{lawful, node_column, node_slot, slot_facts, spot_parts, together_parts}
+use Rattle.fabric_planes.proofs.Strips.{lawful, node_column, slot_facts}
 
 -- ---- numbers of rows
 
@@ -29,17 +29,11 @@ pins_some (pin ∷ pins) e = omega arith
 module _ {basis : Basis} (is : IsBasis basis) where
   -- a sink has the number of a pad, or 0
   pub sink_few : (v : Node) → is_slot basis.arch basis.strip Sink v.y v.n ≡ true → v.n < basis.strip.io_rat
-  sink_few v h = elim (or_cases (is_pad_row basis.strip v.y && nat_lt v.n basis.strip.io_rat) (is_block_row basis.strip v.y && (v.n == 0)) h) [
-    | inl pad ↦ ltb-true v.n basis.strip.io_rat (and_parts (is_pad_row basis.strip v.y) (nat_lt v.n basis.strip.io_rat) pad).1
-    | inr block ↦ omega (arith, eqb-true v.n 0 (and_parts (is_block_row basis.strip v.y) (v.n == 0) block).1, is.strip.io_rat.0)
-  ]
+  sink_few v h = grind arith
 
   -- the number of a pin is one of those in the table
   number_few : (kind : NodeKind) (v : Node) → (IsWire kind → ⊥) → is_slot basis.arch basis.strip kind v.y v.n ≡ true → v.n < pins_of basis
-  number_few Source v pin h = elim (or_cases (is_pad_row basis.strip v.y && nat_lt v.n basis.strip.io_rat) (is_block_row basis.strip v.y && (v.n == 1)) h) [
-    | inl pad ↦ omega (arith, ltb-true v.n basis.strip.io_rat (and_parts (is_pad_row basis.strip v.y) (nat_lt v.n basis.strip.io_rat) pad).1)
-    | inr block ↦ omega (arith, eqb-true v.n 1 (and_parts (is_block_row basis.strip v.y) (v.n == 1) block).1, pins_some basis.arch.pins is.arch.clocks, is.strip.io_rat.0)
-  ]
+  number_few Source v pin h = grind (arith, pins_some)
   number_few Sink v pin h = omega (arith, sink_few v h)
   number_few Opin v pin h = slot_facts basis Opin v h
   number_few Ipin v pin h = slot_facts basis Ipin v h
@@ -54,15 +48,7 @@ module _ {basis : Basis} (is : IsBasis basis) where
     pub few : v.n < pins_of basis
 
   pub pin_facts : (v : Node) → (IsWire v.kind → ⊥) → is_node basis.arch basis.strip v ≡ true → IsPin v
-  pin_facts v pin there =
-      let slot = node_slot basis v there in
-      let column = and_parts (nat_le v.x basis.strip.width) ((nat_le 1 v.x || is_chan_y v.kind) && is_slot basis.arch basis.strip v.kind v.y v.n) there in
-      record {
-        from = pin_column v.kind v.x pin (and_parts (nat_le 1 v.x || is_chan_y v.kind) (is_slot basis.arch basis.strip v.kind v.y v.n) column.1).0;
-        to = node_column basis v there;
-        row = omega (arith, (member_bounds basis.arch basis.strip v.kind v.y v.n is.arch is.strip slot).0);
-        few = number_few v.kind v pin slot;
-      }
+  pin_facts v pin there = grind (arith, and_parts, pin_column, node_column, member_bounds, number_few)
 
   pub sink_column : (v : Node) → v.kind ≡ Sink → is_node basis.arch basis.strip v ≡ true → 1 ≤ v.x
   sink_column v kind there = (pin_facts v (subst (λ (k : NodeKind). IsWire k → ⊥) (sym kind) (λ w. w)) there).from
@@ -71,27 +57,14 @@ module _ {basis : Basis} (is : IsBasis basis) where
   number_low v p = mul-add-lt v.y (pins_of basis) v.n (band_of basis) p.row p.few
 
   row_low : (v : Node) → IsPin v → (index : ℕ) → index < basis.arch.tracks + 3 → pin_number basis v.y v.n * (basis.arch.tracks + 3) + index < row_count basis
-  row_low v p index low =
-      let m = mul-add-lt (pin_number basis v.y v.n) (basis.arch.tracks + 3) index (pins_of basis * band_of basis) (number_low v p) low in
-      let e : (basis.arch.tracks + 3) * (pins_of basis * band_of basis) ≡ row_count basis = grind arith in
-      omega (arith, m, e)
+  row_low v p index low = grind (arith, mul-add-lt (pin_number basis v.y v.n) (basis.arch.tracks + 3) index (pins_of basis * band_of basis) (number_low v p) low)
 
   rows_few : row_count basis ≤ 2 ^ 20
-  rows_few =
-      let pins : length basis.arch.pins ≤ 145 = few_pins basis.arch is.arch in
-      let a : band_of basis * pins_of basis ≤ 66 * 153 = mul-le (band_of basis) (pins_of basis) 66 153 (omega (arith, is.strip.rows.1)) (omega (arith, pins, is.strip.io_rat.1)) in
-      let b : row_count basis ≤ 66 * 153 * 67 = mul-le (band_of basis * pins_of basis) (basis.arch.tracks + 3) (66 * 153) 67 a (omega (arith, is.arch.tracks.1)) in
-      omega (arith, b)
+  rows_few = grind (arith, few_pins)
 
   -- the parts of a row's number
   number_back : (y n index : ℕ) → n < pins_of basis → index < basis.arch.tracks + 3 → listed_at basis (pin_number basis y n * (basis.arch.tracks + 3) + index) ≡ listed_by basis.strip (kind_at index) y n (index - 3)
-  number_back y n index few low =
-      let p : ℕ = pin_number basis y n in
-      let per : ℕ = basis.arch.tracks + 3 in
-      ap (λ (q : ℕ). listed_in basis q ((p * per + index) % per)) (div-mul-add p per index low)
-      ∙ (ap (listed_in basis p) (mod-mul-add p per index low)
-      ∙ (ap (λ (v : ℕ). listed_by basis.strip (kind_at index) v (p % pins_of basis) (index - 3)) (div-mul-add y (pins_of basis) n few)
-      ∙ ap (λ (m : ℕ). listed_by basis.strip (kind_at index) y m (index - 3)) (mod-mul-add y (pins_of basis) n few)))
+  number_back y n index few low = grind (arith, div-mul-add, mod-mul-add)
 
   -- ---- the ends that are shown
 
@@ -105,50 +78,13 @@ module _ {basis : Basis} (is : IsBasis basis) where
     pin : IsPin v
     pin = pin_facts v shown.no_wire ((lawful is).nodes i shown.within)
 
-    -- what is together with the source is together with the first column's
-    own_source : (d : ℕ) → v.x ≡ 1 + d → v.kind ≡ Source → (p : Node) → is_together basis.strip t.source (node_at_offset d p) ≡ is_together basis.strip (make_node 1 v.kind v.y own) p
-    own_source d x kind p =
-        let b = t.source in
-        let e = spot_parts v b (subst (λ (k : NodeKind). shows basis.strip t 0 k v ≡ true) kind shown.shown) in
-        let at : b.x ≡ 1 + d = sym e.0 ∙ x in
-        let column : (b.x == p.x + d) ≡ (1 == p.x) = rw at (grind (arith, nat_tests)) in
-        elim (cases_Bool (is_block_row basis.strip v.y)) [
-          | inl block ↦ rw (column, sym e.1, block) refl
-          | inr pad ↦ rw (column, sym e.1, sym e.2, pad) refl
-        ]
-
     record IsOwnSink : Type 0 where
       x : t.sink.x ≡ v.x
       y : t.sink.y ≡ v.y
       n : t.sink.n ≡ own
 
     own_sink : (goal : ℕ) → AreTerminals basis goal t → v.kind ≡ Ipin → IsOwnSink
-    own_sink goal terminals kind =
-        let s = t.sink in
-        let h : is_together basis.strip v s ≡ true = subst (λ (k : NodeKind). shows basis.strip t 0 k v ≡ true) kind shown.shown in
-        let e = together_parts basis.strip v s h in
-        let there : is_node basis.arch basis.strip s ≡ true = subst (λ (v : Node). is_node basis.arch basis.strip v ≡ true) terminals.goal_is ((lawful is).nodes goal terminals.goal_within) in
-        let slot : is_slot basis.arch basis.strip Sink s.y s.n ≡ true = subst (λ (k : NodeKind). is_slot basis.arch basis.strip k s.y s.n ≡ true) terminals.kind (node_slot basis s there) in
-        record {
-          x = sym e.0;
-          y = sym e.1;
-          n = elim (cases_Bool (is_block_row basis.strip v.y)) [
-            | inl block ↦ rw block (elim (or_cases (is_pad_row basis.strip s.y && nat_lt s.n basis.strip.io_rat) (is_block_row basis.strip s.y && (s.n == 0)) slot) [
-              | inl pad ↦ absurd (pad_no_block s.y (and_parts (is_pad_row basis.strip s.y) (nat_lt s.n basis.strip.io_rat) pad).0 (subst (λ (y : ℕ). is_block_row basis.strip y ≡ true) e.1 block))
-              | inr in_block ↦ eqb-true s.n 0 (and_parts (is_block_row basis.strip s.y) (s.n == 0) in_block).1
-            ])
-            | inr pad ↦ rw pad (let parts : (v.n == s.n) ≡ true = rw pad at (and_parts (v.y == s.y) (is_block_row basis.strip v.y || (v.n == s.n)) (and_parts (v.x == s.x) ((v.y == s.y) && (is_block_row basis.strip v.y || (v.n == s.n))) h).1).1 in sym (eqb-true v.n s.n parts))
-          ];
-        }
-      where
-        -- no row has both pads and blocks
-        pad_no_block : (y : ℕ) → is_pad_row basis.strip y ≡ true → is_block_row basis.strip y ≡ true → ⊥
-        pad_no_block y pad block =
-            let rows = and_parts (nat_le 1 y) (nat_le y basis.strip.rows) block in
-            elim (or_cases (y == 0) (y == basis.strip.rows + 1) pad) [
-              | inl low ↦ omega (arith, eqb-true y 0 low, leb-true 1 y rows.0)
-              | inr high ↦ omega (arith, eqb-true y (basis.strip.rows + 1) high, leb-true y basis.strip.rows rows.1)
-            ]
+    own_sink goal terminals kind = grind (arith, and_parts, eqb-true, leb-true, lawful is)
 
     own_track : (track : ℕ) → v.kind ≡ Opin → track ≡ index_of v.kind + rows_per_track v.kind * track - 3
     own_track track kind = rw kind (omega arith)
@@ -159,18 +95,7 @@ module _ {basis : Basis} (is : IsBasis basis) where
 
     shows_same : (goal : ℕ) → AreTerminals basis goal t → (d track : ℕ) → v.x ≡ 1 + d → (kb : NodeKind) (p : Node) → IsReached basis.strip v.kind kb (make_node 1 v.kind v.y v.n) p
         → shows basis.strip t track kb (node_at_offset d p) ≡ shows basis.strip (seen_from (make_node 1 v.kind v.y own)) (index track - 3) kb p
-    shows_same goal terminals d track x Source p r = absurd r
-    shows_same goal terminals d track x Sink p r =
-        let s = own_sink goal terminals r.0 in
-        let at : t.sink.x ≡ 1 + d = s.x ∙ x in
-        let column : (p.x + d == t.sink.x) ≡ (p.x == 1) = rw at (grind (arith, nat_tests)) in
-        rw (column, s.y, s.n) refl
-    shows_same goal terminals d track x Opin p r = own_source d x r.0 p
-    shows_same goal terminals d track x Ipin p r = absurd (shown.no_wire r)
-    shows_same goal terminals d track x ChanX p (inl output) = ap (λ (m : ℕ). p.n == m) (own_track track output)
-    shows_same goal terminals d track x ChanX p (inr wire) = absurd (shown.no_wire wire.0)
-    shows_same goal terminals d track x ChanY p (inl output) = ap (λ (m : ℕ). p.n == m) (own_track track output)
-    shows_same goal terminals d track x ChanY p (inr wire) = absurd (shown.no_wire wire.0)
+    shows_same goal terminals d track x kb p r = search (own_sink, nat_tests, arith)
 
     row_is : (goal : ℕ) → AreTerminals basis goal t → (rows : List (List ℕ)) → AreRowsBelow basis (listed_at basis) (row_count basis) rows → (track : ℕ) → track < basis.arch.tracks
         → ends_in rows (first_row basis v + rows_per_track v.kind * track) (base_of basis i) ≡ shown_ends basis t track i

@@ -1,8 +1,7 @@
 -- Ways in a plane are ways of the whole graph.
-use Rattle.fabric_planes.proofs.Prelude.{◌≡◌, ℕ, ◌<◌, List, [], ◌∷◌, map, refl, sym, ap, ◌∙◌, subst, inl, inr, arith, true, sum_by, cases_Bool, sum_by-cons, Sink, Node, Basis, IsBasis, graph_of, Leads, Family, IsPlace, IsPlane, IsFamily, Labels, AreLabels, is_there, plane_of, family_of, Terminals, graph_at, labels_of, planes_of, place_of, IsNetSearch, AreSideBounds, IsBySide, IsWireAt}
+use Rattle.fabric_planes.proofs.Prelude.{◌≡◌, ℕ, ◌<◌, List, [], ◌∷◌, map, refl, sym, ap, ◌∙◌, subst, arith, true, sum_by, sum_by-cons, Sink, Node, Basis, IsBasis, graph_of, Leads, Family, IsPlace, IsPlane, IsFamily, Labels, AreLabels, is_there, plane_of, family_of, Terminals, graph_at, labels_of, planes_of, place_of, IsNetSearch, AreSideBounds, IsBySide, IsWireAt}
 use Rattle.fabric_planes.proofs.Labeled.{is_family, at_place, there_of}
 use Rattle.fabric_planes.proofs.SideWays.{by_side}
-use Rattle.fabric_planes.proofs.Members.{in_none}
 use Rattle.fabric_planes.proofs.Strips.{are_labels}
 
 module _ {f : Family} {track : ℕ} (plane : IsPlane f track) where
@@ -20,10 +19,7 @@ module _ (l : Labels) (are : AreLabels l) where
   -- a way leads from a place where something is
   pub way_there : (track : ℕ) → track < l.tracks → (place : ℕ) (rest : List ℕ) → Leads (plane_of l track) (l.place l.goal) place rest → is_there l track place ≡ true
   way_there track few place [] way = rw way (there_of l are track l.goal are.goal (are.goal_shown track few))
-  way_there track few place (x ∷ xs) way = elim (cases_Bool (is_there l track place)) [
-    | inl there ↦ there
-    | inr nothing ↦ absurd (in_none x (rw nothing at way.0))
-  ]
+  way_there track few place (x ∷ xs) way = grind arith
 
 module _ {basis : Basis} (is : IsBasis basis) {cost : ℕ → ℕ} {starts : List ℕ} {goal : ℕ} {t : Terminals} (search : IsNetSearch basis cost starts goal t) where
   abbrev node : ℕ → Node

@@ -3,7 +3,7 @@ pub use Rattle.std.proofs.Common.{Bool, List, Some, [], ap, append_assoc, arith,
 pub use Rattle.std.proofs.Math.ListN.{replicate}
 pub use Rattle.std.proofs.Math.Nat.{mul-le-mul_left}
 pub use Rattle.std.proofs.Math.Seq.{get_or-append_seam, take-append_seam}
-pub use Rattle.std.proofs.lemmas.Bool.{and_from, and_parts, cases_Bool, cases_eq, cases_lt, eq-eqb, eqb-true, false≢true, le-leb, le-ltb, leb-false, leb-true, lt-ltb, ltb-true, ne_eqb, or_cases, or_right}
+pub use Rattle.std.proofs.lemmas.Bool.{and_from, and_parts, cases_Bool, cases_eq, cases_lt, eq-eqb, eqb-true, false≢true, le-leb, le-ltb, leb-false, leb-true, lt-ltb, ltb-true, ne_eqb, or_cases}
 pub use Rattle.std.proofs.lemmas.Bool.Decides.{nat_tests}
 pub use Rattle.std.proofs.lemmas.List.{append-nil, get_or-drop, get_or-map, get_or-replicate, get_or-set_other, get_or-set_same, get_or-take, get_or_append_left, get_or_default, get_or_past, get_or_push, get_or_read, length-drop, length-map, length-replicate, length-set, length-take-le, map-append, take_at, take_more, with_items_is}
 pub use Rattle.std.proofs.lemmas.List.Elements.{All-append, All-cons, All-contains, All-contains_itself, All-drop, All-from_get_or, All-map, All-nil, All-take, Contains-append_cases, Contains-append_left, Contains-append_right, Contains-get_or, Contains-push, Contains-push_cases, filter-append}
@@ -18,7 +18,7 @@ pub use Rattle.std.specs.Cmp.Lexicographic.{slice_cmp}
 pub use Rattle.std.specs.List.{range_with_len}
 pub use Rattle.std.specs.List.Sorted.{IsNonDecreasing, IsStrictlyIncreasing}
 pub use Rattle.std.specs.Ordering.{nat_cmp}
-pub use Rattle.std.specs.Prelude.{All, Contains, IfSome, filter, if◌then◌else◌, nat_lt, slice_get, slice_index, slice_index_or, slice_set, sum_by}
+pub use Rattle.std.specs.Prelude.{All, Contains, IfSome, filter, if◌then◌else◌, slice_get, slice_index, slice_index_or, slice_set, sum_by}
 pub use Rattle.std.specs.Vec.{with_items}
 pub use Rattle.std.specs.declared.cmp.Ordering.TheVariants.{Less}
 pub use Rattle.arch_file.proofs.FewPins.{few_pins}
@@ -29,7 +29,7 @@ pub use Rattle.fabric_planes.specs.Aheads.{AreAheads, AreFars, AreLeast, AreSide
 pub use Rattle.fabric_planes.specs.ArrivalRows.{arrival_at, arrival_for, arrival_if, column_of, first_row, first_rows, index_of, row_count, wire_beside}
 pub use Rattle.fabric_planes.specs.BoundRows.{IsFarRow, IsNearRow, far_list}
 pub use Rattle.fabric_planes.specs.Bounds.{AreLowered, IsMetAt, IsOutput, IsWireBound}
-pub use Rattle.fabric_planes.specs.Differences.{IsPinPlace, IsPlaced, IsTarget, IsTargetAt, MOST_FAR, far_at, far_count, far_table, index_from, shift_of, target_at, target_offset, wires_to}
+pub use Rattle.fabric_planes.specs.Differences.{IsPinPlace, IsPlaced, IsTarget, IsTargetAt, MOST_FAR, far_at, far_table, index_from, shift_of, target_at, target_offset, wires_to}
 pub use Rattle.fabric_planes.specs.Distances.{apart_from, east_of, ends_apart, is_same_wire, north_of, south_of, west_of, wires_apart, wires_by}
 pub use Rattle.fabric_planes.specs.Ends.{AddsRow, AreRowsBelow, IsRowFor, base_of, row_from, row_of, seen_from}
 unfoldable pub use Rattle.fabric_planes.specs.Ends.{shown_ends}
@@ -41,7 +41,7 @@ pub use Rattle.fabric_planes.specs.Laid.{IsWireOf}
 pub use Rattle.fabric_planes.specs.Layout.{AreCosts, AreTerminals, IsNetSearch, IsStart, Terminals, band_of, graph_at, in_column, is_same_spot, level_at, offset_of, pins_of, place_count, place_of, planes_of, shows, stride_of, track_by, upright_at}
 unfoldable pub use Rattle.fabric_planes.specs.Layout.{labels_of}
 pub use Rattle.fabric_planes.specs.NetSearches.{IsPathAt, terminals_of}
-pub use Rattle.fabric_planes.specs.PinRows.{apart_at, apart_by, apart_count, aparts, kind_at, listed_at, listed_by, listed_in, pin_number, rows_per_track}
+pub use Rattle.fabric_planes.specs.PinRows.{apart_at, apart_by, apart_count, aparts, kind_at, listed_at, listed_by, pin_number, rows_per_track}
 pub use Rattle.fabric_planes.specs.Pins.{AreArrivals, AreByPlace, ArePins, ArePrices, HasEnds, HaveEnds, IsAside, IsShownPin, ends_in}
 pub use Rattle.fabric_planes.specs.PlaneBounds.{AreBounds, AreRivals}
 pub use Rattle.fabric_planes.specs.Prelude.{AreNodes, AreNumbersAt, Basis, ChanX, ChanY, Family, Graph, Ipin, IsBasis, IsFamily, IsKnown, IsLawful, IsLowerBound, IsPath, IsPlace, IsPlaneBound, IsRivalBound, IsTooFar, IsWire, Leads, Node, NodeKind, Opin, Path, Sides, Sink, Source, Start, Strip, cost_of, graph_of, is_block_row, is_node, is_together, is_wire, make_node, meets, node_at_offset, places_of, rank_of, sides_at}

@@ -1,5 +1,5 @@
 -- Tables of prices while they are set.
-use Rattle.fabric_planes.proofs.Prelude.{◌≡◌, ℕ, ◌+◌, ◌*◌, ◌<◌, ◌≤◌, ◌⊎◌, List, length, set, refl, sym, ap, ◌∙◌, subst, inl, inr, arith, slice_index, cases_eq, cases_lt, get_or-set_same, get_or-set_other, length-set, Node, IsWire, Basis, IsBasis, graph_of, IsWireOf, place_of, place_count, PriceAt, ArePrices, AreByPlace, AreByPlaceBut, ComesFrom, IsSpot, IsRepriced, IsWireOn, IsWireAt}
+use Rattle.fabric_planes.proofs.Prelude.{◌≡◌, ℕ, ◌+◌, ◌*◌, ◌<◌, ◌≤◌, ◌⊎◌, List, length, set, refl, sym, ap, ◌∙◌, inl, inr, arith, slice_index, cases_eq, get_or-set_same, get_or-set_other, length-set, Node, Basis, IsBasis, graph_of, IsWireOf, place_of, place_count, PriceAt, ArePrices, AreByPlace, AreByPlaceBut, ComesFrom, IsSpot, IsRepriced, IsWireOn, IsWireAt}
 use Rattle.fabric_planes.proofs.Consecutive.{wires_order}
 use Rattle.fabric_planes.proofs.Found.{place_low}
 use Rattle.fabric_planes.proofs.Strips.{track_low}
@@ -38,21 +38,14 @@ module _ {basis : Basis} (is : IsBasis basis) where
   places = place_count basis
 
   same_wire : (i j : ℕ) → IsWireAt basis i → IsWireAt basis j → (node i).n ≡ (node j).n → place_of basis (node i) ≡ place_of basis (node j) → i ≡ j
-  same_wire i j wi wj n p = elim (cases_eq i j) [
-    | inl same ↦ same
-    | inr other ↦ elim (cases_lt i j) [
-      | inl l ↦ absurd (omega (arith, wires_order is i j l wj.within wi.wire wj.wire n, p))
-      | inr l ↦ (let m : j < i = omega (arith, l, other) in absurd (omega (arith, wires_order is j i m wi.within wj.wire wi.wire (sym n), p)))
-    ]
-  ]
+  same_wire i j wi wj n p = grind (arith, wires_order)
 
   place_below : (number : ℕ) → IsWireAt basis number → place_of basis (node number) < places
   place_below number w = place_low is (place_of basis (node number)) number (record { wire = w; is_at = refl })
 
   -- the index of a wire's price
   pub spot_low : (number : ℕ) → IsWireAt basis number → (node number).n * places + place_of basis (node number) < basis.arch.tracks * places
-  spot_low number w = within basis.arch.tracks places (node number).n (place_of basis (node number))
-      (track_low is number w) (place_below number w)
+  spot_low number w = search (within, track_low, place_below, arith)
 
   -- no other wire's price is there
   spot_apart : (number : ℕ) (spot : PriceAt) (k place : ℕ) → IsSpot basis number spot → IsWireOf basis place k → (k ≡ number → ⊥) → (node k).n * places + place ≡ spot.by_track → ⊥
@@ -66,23 +59,11 @@ module _ {basis : Basis} (is : IsBasis basis) where
 
   -- the nodes that are left after one more, if it is no wire
   split_off : (number : ℕ) (before after : ℕ → Type 0) → ((k : ℕ) → before k → after k ⊎ (k ≡ number)) → (k : ℕ) → (k ≡ number → ⊥) → (after k → ⊥) → before k → ⊥
-  split_off number before after split k other not b = elim (split k b) [
-    | inl a ↦ not a
-    | inr q ↦ other q
-  ]
-
-  not_it : (number k : ℕ) → (IsWire (node number).kind → ⊥) → IsWireAt basis k → k ≡ number → ⊥
-  not_it number k no_wire w q = no_wire (subst (λ (j : ℕ). IsWire (node j).kind) q w.wire)
+  split_off number before after split k other not b = grind arith
 
   pub repriced : (cost : ℕ → ℕ) (number : ℕ) (before after : ℕ → Type 0) (old new old_by new_by : List ℕ) → ((k : ℕ) → before k → after k ⊎ (k ≡ number))
       → ArePricesBut basis cost before old → IsRepriced basis (cost number) number old new old_by new_by → ArePricesBut basis cost after new
-  repriced cost number before after old new old_by new_by split are (inr u) = record {
-    long = ap (λ (xs : List ℕ). length xs) u.same ∙ are.long;
-    told = λ place k w not some.
-        let e = ap (λ (xs : List ℕ). slice_index xs ((node k).n * places + place)) u.same in
-        e ∙ are.told place k w (split_off number before after split k (not_it number k u.no_wire w.wire) not) (λ q. some (e ∙ q));
-    others = λ track place t p none. ap (λ (xs : List ℕ). slice_index xs (track * places + place)) u.same ∙ are.others track place t p none;
-  }
+  repriced cost number before after old new old_by new_by split are (inr u) = grind arith
   repriced cost number before after old new old_by new_by split are (inl s) =
       let spot = s.spot.by_track in
       let at : (i : ℕ) → slice_index new i ≡ slice_index (set old spot s.price) i = λ i. ap (λ (xs : List ℕ). slice_index xs i) s.set in
@@ -130,11 +111,7 @@ module _ {basis : Basis} (is : IsBasis basis) where
 
   pub repriced_by_place : (cost : ℕ → ℕ) (number : ℕ) (before after : ℕ → Type 0) (old new old_by new_by : List ℕ) → ((k : ℕ) → before k → after k ⊎ (k ≡ number))
       → AreByPlaceBut basis cost before old_by → IsRepriced basis (cost number) number old new old_by new_by → AreByPlaceBut basis cost after new_by
-  repriced_by_place cost number before after old new old_by new_by split are (inr u) = record {
-    long = ap (λ (xs : List ℕ). length xs) u.same_by_place ∙ are.long;
-    low = λ place k w not.
-        rw u.same_by_place (are.low place k w (split_off number before after split k (not_it number k u.no_wire w.wire) not));
-  }
+  repriced_by_place cost number before after old new old_by new_by split are (inr u) = grind arith
   repriced_by_place cost number before after old new old_by new_by split are (inl s) =
       let spot = s.spot.by_place in
       record {
@@ -176,58 +153,20 @@ module _ {basis : Basis} (is : IsBasis basis) (cost : ℕ → ℕ) where
 
   -- at first no price is set
   pub begun_by_place : (prices : List ℕ) → length prices ≡ place_count basis * basis.arch.tracks → AreByPlaceBut basis cost (ComesFrom basis 0 0) prices
-  begun_by_place prices long = record {
-    long = long;
-    low = λ place number w not. absurd (not (
-      w.wire,
-      elim (cases_eq (place_of basis (of number)) 0) [
-        | inl here ↦ inl (here, omega arith)
-        | inr later ↦ inr (omega (arith, later))
-      ],
-    ));
-  }
+  begun_by_place prices long = grind arith
 
   -- the wire of a track is done
   pub next_wire : (place track number : ℕ) → IsWireOn basis place track number → (k : ℕ) → ComesFrom basis place track k → ComesFrom basis place (track + 1) k ⊎ (k ≡ number)
-  next_wire place track number on k (w, inr later) = inl (w, inr later)
-  next_wire place track number on k (w, inl (here, from)) = elim (cases_eq (of k).n track) [
-    | inl same ↦ inr (same_wire is k number w on.wire.wire (same ∙ sym on.on_track) (here ∙ sym on.wire.is_at))
-    | inr other ↦ inl (w, inl (here, omega (arith, from, other)))
-  ]
+  next_wire place track number on k h2 = grind (arith, same_wire)
 
   -- all wires of a place are done
   pub next_place : (place tracks : ℕ) (prices : List ℕ) → basis.arch.tracks ≤ tracks → AreByPlaceBut basis cost (ComesFrom basis place tracks) prices → AreByPlaceBut basis cost (ComesFrom basis (place + 1) 0) prices
-  next_place place tracks prices few are = record {
-    long = are.long;
-    low = λ p number w not. are.low p number w (λ from. elim from.1 [
-      | inl here ↦ omega (arith, here.1, few, track_low is number w.wire)
-      | inr later ↦ not (
-        w.wire,
-        elim (cases_eq (place_of basis (of number)) (place + 1)) [
-          | inl next ↦ inl (next, omega arith)
-          | inr more ↦ inr (omega (arith, later, more))
-        ],
-      )
-    ]);
-  }
+  next_place place tracks prices few are = grind (arith, track_low)
 
   -- a place has no wire
   pub skip_place : (place : ℕ) (prices : List ℕ) → ((number : ℕ) → IsWireOf basis place number → ⊥) → AreByPlaceBut basis cost (ComesFrom basis place 0) prices → AreByPlaceBut basis cost (ComesFrom basis (place + 1) 0) prices
-  skip_place place prices none are = record {
-    long = are.long;
-    low = λ p number w not. are.low p number w (λ from. elim from.1 [
-      | inl here ↦ none number (record { wire = w.wire; is_at = here.0 })
-      | inr later ↦ not (
-        w.wire,
-        elim (cases_eq (place_of basis (of number)) (place + 1)) [
-          | inl next ↦ inl (next, omega arith)
-          | inr more ↦ inr (omega (arith, later, more))
-        ],
-      )
-    ]);
-  }
+  skip_place place prices none are = grind arith
 
   -- no wire comes after the last place
   pub none_after : (place : ℕ) → place_count basis ≤ place → (number : ℕ) → ComesFrom basis place 0 number → ⊥
-  none_after place past number (w, inl here) = omega (arith, past, here.0, place_below is number w)
-  none_after place past number (w, inr later) = omega (arith, past, later, place_below is number w)
+  none_after place past number h2 = grind (arith, place_below)

@@ -1,5 +1,5 @@
 -- Paths that come before a known one cost at least the bounds.
-use Rattle.fabric_planes.proofs.Prelude.{◌≡◌, ℕ, ◌+◌, ◌<◌, ◌≤◌, List, length, map, refl, sym, ap, ◌∙◌, subst, inl, inr, arith, true, Contains, slice_index, sum_by, and_parts, cases_eq, All-contains, Arch, Strip, NodeKind, Source, Opin, Node, IsWire, joins, meets, meets_track, flexibility_of, runs_along, sides_at, is_together, Basis, IsBasis, graph_of, edge_joins, Leads, Family, IsPlaneBound, IsRivalBound, IsMetAt, Terminals, IsStart, IsNetSearch, place_of, planes_of, shows, IsShownPin, AreBounds, AreRivals, AreRivalsFrom, AreRivalsOver, head_over, ComesFirst, IsHeadOf, HasStarts, IsWireAt, NetStarts, StartWire, Head}
+use Rattle.fabric_planes.proofs.Prelude.{◌≡◌, ℕ, ◌+◌, ◌<◌, ◌≤◌, List, length, map, refl, sym, ap, ◌∙◌, subst, inl, inr, arith, true, Contains, slice_index, sum_by, and_parts, All-contains, Arch, Strip, NodeKind, Source, Opin, Node, IsWire, joins, meets, meets_track, flexibility_of, runs_along, sides_at, is_together, Basis, IsBasis, graph_of, edge_joins, Leads, Family, IsPlaneBound, IsRivalBound, IsMetAt, Terminals, IsStart, IsNetSearch, place_of, planes_of, shows, IsShownPin, AreBounds, AreRivals, AreRivalsFrom, AreRivalsOver, ComesFirst, IsHeadOf, HasStarts, IsWireAt, NetStarts, StartWire, Head}
 use Rattle.fabric_planes.proofs.HeadOrder.{heads_order, wire_first}
 use Rattle.fabric_planes.proofs.Heads.{plane_head}
 use Rattle.fabric_planes.proofs.Joins.{IsReached}
@@ -63,19 +63,12 @@ module _ {basis : Basis} (is : IsBasis basis) where
       over_wire : (start pin more wire : ℕ) (q : Head) (way : List ℕ) → AreRivalsOver basis cost F head start pin more bounds → pin < (graph_of basis).count → (node pin).kind ≡ Opin → IsWireAt basis wire → Contains ((graph_of basis).ends pin) wire
           → q.start ≡ start → q.pin ≡ pin → place_of basis (node wire) ≡ q.place → (node wire).n ≡ q.track → q.track ≡ track → ComesFirst q head → Leads (F.plane track) F.exit q.place way
           → slice_index bounds track ≤ more + (cost wire + sum_by (F.plane track).cost way)
-      over_wire start pin more wire q way are b k w c s p l n on first leads =
-          let m = met_somewhere pin wire b k w c in
-          let e : (node wire).n ≡ track = n ∙ on in
-          let led : Leads (F.plane (node wire).n) F.exit (place_of basis (node wire)) way = subst (λ (v : ℕ). Leads (F.plane v) F.exit (place_of basis (node wire)) way) (sym e) (subst (λ (v : ℕ). Leads (F.plane track) F.exit v way) (sym l) leads) in
-          subst (λ (v : ℕ). slice_index bounds v ≤ more + (cost wire + sum_by (F.plane v).cost way)) e
-          (are.low m.side wire m.few m.met (first_same q (head_over basis start pin wire) head s p (sym l) (sym n) first) way led)
+      over_wire start pin more wire q way are b k w c s p l n on first leads = grind (arith, met_somewhere pin wire b k w c)
 
       -- a wire's own way
       from_wire : (start : ℕ) (q : Head) (way : List ℕ) → AreRivalsFrom basis cost F t head start bounds → IsWireAt basis start → start < head.start → place_of basis (node start) ≡ q.place → (node start).n ≡ track → Leads (F.plane track) F.exit q.place way
           → slice_index bounds track ≤ sum_by (F.plane track).cost way
-      from_wire start q way are w l at n leads =
-          let led : Leads (F.plane (node start).n) F.exit (place_of basis (node start)) way = subst (λ (v : ℕ). Leads (F.plane v) F.exit (place_of basis (node start)) way) (sym n) (subst (λ (v : ℕ). Leads (F.plane track) F.exit v way) (sym at) leads) in
-          subst (λ (v : ℕ). slice_index bounds v ≤ sum_by (F.plane v).cost way) n (are.wire w.wire l way led)
+      from_wire start q way are w l at n leads = grind arith
 
       pub rival_bound : IsRivalBound F track known (slice_index bounds track)
       rival_bound path p less = elim (plane_head is t cost starts goal search track few path p) [
@@ -123,10 +116,4 @@ module _ {basis : Basis} (is : IsBasis basis) where
     -- the bound of the head's track is one of all its paths
     pub with_own : (head : Head) (known all old new : List ℕ) → AreBounds F all → length old ≡ basis.arch.tracks → ((track : ℕ) → track < basis.arch.tracks → (track ≡ head.track → ⊥) → IsRivalBound F track known (slice_index old track))
         → ((k : ℕ) → (k ≡ head.track → ⊥) → slice_index new k ≡ slice_index old k) → (head.track < length old → slice_index new head.track ≡ slice_index all head.track) → AreRivals F known new
-    with_own head known all old new are long low other own track few = elim (cases_eq track head.track) [
-      | inl same ↦
-          (let b : head.track < length old = omega (arith, is_track basis cost starts goal t track few, same, long) in
-          let e : slice_index new track ≡ slice_index all track = subst (λ (v : ℕ). slice_index new v ≡ slice_index all v) (sym same) (own b) in
-          subst (λ (v : ℕ). IsRivalBound F track known v) (sym e) (of_plane track (slice_index all track) known (are.each track few)))
-      | inr differ ↦ subst (λ (v : ℕ). IsRivalBound F track known v) (sym (other track differ)) (low track (is_track basis cost starts goal t track few) differ)
-    ]
+    with_own head known all old new are long low other own track few = grind (arith, is_track basis cost starts goal t track few)

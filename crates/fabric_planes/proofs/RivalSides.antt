@@ -1,5 +1,5 @@
 -- Bounds of the paths over an output pin that come before a known path.
-use Rattle.fabric_planes.proofs.Prelude.{◌≡◌, ℕ, ◌<◌, ◌≤◌, List, refl, sym, ◌∙◌, subst, arith, slice_index, Node, Basis, IsBasis, graph_of, Family, AreSides, IsMetAt, IsOutput, IsWireBound, place_of, head_over, IsLead, ComesFirst, Lead, Head}
+use Rattle.fabric_planes.proofs.Prelude.{◌≡◌, ℕ, ◌<◌, ◌≤◌, List, sym, subst, arith, slice_index, Node, Basis, IsBasis, graph_of, Family, AreSides, IsMetAt, IsOutput, IsWireBound, place_of, head_over, IsLead, ComesFirst, Lead, Head}
 use Rattle.fabric_planes.proofs.Strips.{together_parts, track_low}
 
 module _ {basis : Basis} (is : IsBasis basis) where
@@ -8,10 +8,7 @@ module _ {basis : Basis} (is : IsBasis basis) where
 
   -- the wire is at the place of the side
   pub met_place : (source pin : Node) (sides : List ℕ) (side wire : ℕ) → AreSides basis source sides → IsOutput basis source pin → IsMetAt basis pin side wire → slice_index sides side ≡ place_of basis (node wire)
-  met_place source pin sides side wire are output met =
-      let e = together_parts basis.strip source pin output.own in
-      are.all side (place_of basis (node wire)) wire (record { wire = met.wire_is; is_at = refl })
-      (record { few = met.at.few; kind_is = met.at.kind_is; column = met.at.column ∙ sym e.0; row = met.at.row ∙ sym e.1 })
+  met_place source pin sides side wire are output met = search (together_parts, arith)
 
   -- a wire over which paths come before the head is on one of the first tracks
   pub over_first : (source : Node) (sides : List ℕ) (lead : Lead) (head : Head) (side count tracks wire : ℕ) → AreSides basis source sides → IsLead basis source lead → tracks ≡ basis.arch.tracks

@@ -1,5 +1,5 @@
 -- Bounds of the paths from starts that come before a known path.
-use Rattle.fabric_planes.proofs.Prelude.{◌≡◌, ℕ, zero, suc, ◌<◌, ◌≤◌, ◌⊎◌, List, [], ◌∷◌, length, get_or, set, Some, sym, ap, ◌∙◌, subst, inl, inr, arith, Contains, slice_index, slice_index_or, sum_by, cases_eq, get_or_default, get_or-set_same, NodeKind, Source, Sink, Opin, Ipin, ChanX, ChanY, Node, IsWire, Basis, IsBasis, graph_of, IsLowerBound, Leads, Family, AreLowered, node_at, Terminals, place_of, labels_of, IsNetSearch, IsShownPin, ArePins, AreOverSide, AreOverPin, AreRivalsOver, AreFromSource, AreRivalsFrom, AreShownTo, AreWiresTo, IsStartKind, StartWire, PinAt, Lead, Head}
+use Rattle.fabric_planes.proofs.Prelude.{◌≡◌, ℕ, zero, suc, ◌<◌, ◌≤◌, ◌⊎◌, List, [], ◌∷◌, length, set, Some, sym, ap, ◌∙◌, subst, inl, inr, arith, Contains, slice_index, slice_index_or, sum_by, cases_eq, get_or_default, get_or-set_same, NodeKind, Source, Opin, Node, IsWire, Basis, IsBasis, graph_of, IsLowerBound, Leads, Family, AreLowered, node_at, Terminals, place_of, labels_of, IsNetSearch, IsShownPin, ArePins, AreOverSide, AreOverPin, AreRivalsOver, AreFromSource, AreRivalsFrom, AreShownTo, AreWiresTo, StartWire, PinAt, Lead, Head}
 use Rattle.fabric_planes.proofs.Labeled.{at_place}
 use Rattle.fabric_planes.proofs.Strips.{are_labels}
 
@@ -18,12 +18,7 @@ module _ (basis : Basis) (cost : ℕ → ℕ) (f : Family) where
   over_still head start pin more xs ys are falls = record { low = λ side wire b met first way leads. omega (arith, are.low side wire b met first way leads, falls.falls (node wire).n) }
 
   pub from_still : (t : Terminals) (head : Head) (start : ℕ) (xs ys : List ℕ) → AreRivalsFrom basis cost f t head start xs → AreLowered xs ys → AreRivalsFrom basis cost f t head start ys
-  from_still t head start xs ys are falls = record {
-    wire = λ w l way leads. omega (arith, are.wire w l way leads, falls.falls (node start).n);
-    output = λ k. over_still head start start 0 xs ys (are.output k) falls;
-    source = λ k pin shown o. over_still head start pin (cost pin) xs ys (are.source k pin shown o) falls;
-    other = λ k track b. omega (arith, are.other k track b, falls.falls track);
-  }
+  from_still t head start xs ys are falls = search arith
 
   -- a pin's whole cost is no less
   pub over_whole : (head : Head) (lead : Lead) (more : ℕ) (xs : List ℕ) → AreOverPin basis cost f head lead xs → lead.more ≤ more → AreRivalsOver basis cost f head lead.start lead.pin more xs
@@ -34,61 +29,26 @@ module _ (basis : Basis) (cost : ℕ → ℕ) (f : Family) where
 
   -- ---- starts by kind
 
-  source_opin : Source ≡ Opin → ⊥
-  source_opin e = cc
-
   pub from_source : (t : Terminals) (head : Head) (start : ℕ) (xs : List ℕ) → (node start).kind ≡ Source → AreFromSource basis cost f t head start xs → AreRivalsFrom basis cost f t head start xs
-  from_source t head start xs k low = record {
-    wire = λ w l. absurd (subst IsWire k w);
-    output = λ o. absurd (source_opin (sym k ∙ o));
-    source = λ s. low;
-    other = λ n. absurd (n (subst IsStartKind (sym k) tt));
-  }
+  from_source t head start xs k low = grind arith
 
   pub from_output : (t : Terminals) (head : Head) (start : ℕ) (lead : Lead) (xs : List ℕ) → (node start).kind ≡ Opin → lead.start ≡ start → lead.pin ≡ start → lead.more ≡ 0 → AreOverPin basis cost f head lead xs → AreRivalsFrom basis cost f t head start xs
-  from_output t head start lead xs k s p m low = record {
-    wire = λ w l. absurd (subst IsWire k w);
-    output = λ o. subst (λ (v : ℕ). AreRivalsOver basis cost f head v start 0 xs) s (subst (λ (v : ℕ). AreRivalsOver basis cost f head lead.start v 0 xs) p (over_whole head lead 0 xs low (omega (arith, m))));
-    source = λ o. absurd (source_opin (sym o ∙ k));
-    other = λ n. absurd (n (subst IsStartKind (sym k) tt));
-  }
+  from_output t head start lead xs k s p m low = grind arith
 
   -- all bounds are 0
   pub from_other : (t : Terminals) (head : Head) (start : ℕ) (xs : List ℕ) → (IsWire (node start).kind → ⊥) → ((node start).kind ≡ Source → ⊥) → ((node start).kind ≡ Opin → ⊥) → ((track : ℕ) → track < basis.arch.tracks → slice_index xs track ≡ 0) → AreRivalsFrom basis cost f t head start xs
-  from_other t head start xs w s o none = record {
-    wire = λ k. absurd (w k);
-    output = λ k. absurd (o k);
-    source = λ k. absurd (s k);
-    other = λ n. none;
-  }
+  from_other t head start xs w s o none = grind arith
 
   -- a wire
   pub from_wire : (t : Terminals) (head : Head) (start : ℕ) (xs : List ℕ) → IsWire (node start).kind
       → (start < head.start → (way : List ℕ) → Leads (f.plane (node start).n) f.exit (place_of basis (node start)) way → slice_index xs (node start).n ≤ sum_by (f.plane (node start).n).cost way)
       → AreRivalsFrom basis cost f t head start xs
-  from_wire t head start xs w low = record {
-    wire = λ k. low;
-    output = λ k. absurd (subst IsWire k w);
-    source = λ k. absurd (subst IsWire k w);
-    other = λ n. absurd (none (node start).kind w n);
-  }
-    where
-      none : (k : NodeKind) → IsWire k → (IsStartKind k → ⊥) → ⊥
-      none Source w n = w
-      none Sink w n = w
-      none Opin w n = w
-      none Ipin w n = w
-      none ChanX w n = n tt
-      none ChanY w n = n tt
+  from_wire t head start xs w low = grind arith
 
   -- the bound of a wire's track is one of the ways from the wire
   pub wire_set : (t : Terminals) (head : Head) (wire : StartWire) (xs : List ℕ) (ahead : ℕ) → IsWire (node wire.number).kind → wire.track ≡ (node wire.number).n → wire.place ≡ place_of basis (node wire.number) → wire.track < length xs
       → IsLowerBound (f.plane wire.track) f.exit wire.place (Some ahead) → AreRivalsFrom basis cost f t head wire.number (set xs wire.track ahead)
-  wire_set t head wire xs ahead w track place b low = from_wire t head wire.number (set xs wire.track ahead) w (λ l way leads.
-      let here : slice_index (set xs wire.track ahead) (node wire.number).n ≡ ahead = ap (λ (n : ℕ). get_or (set xs wire.track ahead) n 0) (sym track) ∙ get_or-set_same xs wire.track ahead 0 b in
-      let led : Leads (f.plane wire.track) f.exit wire.place way = subst (λ (n : ℕ). Leads (f.plane n) f.exit wire.place way) (sym track) (subst (λ (p : ℕ). Leads (f.plane (node wire.number).n) f.exit p way) (sym place) leads) in
-      let sum : ahead ≤ sum_by (f.plane (node wire.number).n).cost way = subst (λ (n : ℕ). ahead ≤ sum_by (f.plane n).cost way) track (low way led) in
-      omega (arith, here, sum))
+  wire_set t head wire xs ahead w track place b low = grind (arith, get_or-set_same)
 
 -- ---- pins that are shown
 

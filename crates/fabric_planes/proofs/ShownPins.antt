@@ -1,5 +1,5 @@
 -- The pins that a net's planes show, as they are listed.
-use Rattle.fabric_planes.proofs.Prelude.{◌≡◌, ℕ, ◌<◌, ◌⊎◌, true, List, [], ◌∷◌, ◌++◌, refl, sym, ap, subst, ◌∙◌, inl, inr, arith, Contains, eq-eqb, Contains-append_left, Contains-push, Contains-push_cases, NodeKind, Source, Sink, Opin, Ipin, ChanX, ChanY, Node, IsWire, Basis, IsBasis, graph_of, PinAt, is_same_spot, place_of, shows, terminals_of, IsShownPin, AddsPins, ArePinsFor, IsOutputOf, IsPinAt, IsOwnPin}
+use Rattle.fabric_planes.proofs.Prelude.{◌≡◌, ℕ, ◌<◌, ◌⊎◌, true, List, [], ◌∷◌, ◌++◌, refl, sym, ap, subst, ◌∙◌, inl, inr, arith, Contains, Contains-append_left, Contains-push, Contains-push_cases, NodeKind, Source, Sink, Opin, Ipin, ChanX, ChanY, Node, IsWire, Basis, IsBasis, graph_of, PinAt, is_same_spot, place_of, shows, terminals_of, IsShownPin, AddsPins, ArePinsFor, IsOutputOf, IsPinAt, IsOwnPin}
 use Rattle.fabric_planes.proofs.Consecutive.{same_number}
 
 -- ---- lists with more pins
@@ -16,30 +16,10 @@ module _ (basis : Basis) (rows : List (List ℕ)) where
   })
 
   pub both_added : (first second : ℕ → Type 0) (a b c : List PinAt) → AddsPins basis rows first a b → AddsPins basis rows second b c → AddsPins basis rows (λ k. first k ⊎ second k) a c
-  both_added first second a b c f s = record {
-    before = λ pin i. s.before pin (f.before pin i);
-    sound = λ pin i. elim (s.sound pin i) [
-      | inl i ↦ elim (f.sound pin i) [
-        | inl i ↦ inl i
-        | inr (at, is) ↦ inr (at, inl is)
-      ]
-      | inr (at, is) ↦ inr (at, inr is)
-    ];
-    all = λ k which. elim which [
-      | inl is ↦ (let h = f.all k is in record { pin = h.pin; contained = s.before h.pin h.contained; is = h.is })
-      | inr is ↦ s.all k is
-    ];
-  }
+  both_added first second a b c f s = search arith
 
   pub same_added : (first second : ℕ → Type 0) (old new : List PinAt) → ((k : ℕ) → first k → second k) → ((k : ℕ) → second k → first k) → AddsPins basis rows first old new → AddsPins basis rows second old new
-  same_added first second old new to from are = record {
-    before = are.before;
-    sound = λ pin i. elim (are.sound pin i) [
-      | inl i ↦ inl i
-      | inr (at, is) ↦ inr (at, to pin.number is)
-    ];
-    all = λ k is. are.all k (from k is);
-  }
+  same_added first second old new to from are = grind arith
 
 -- ---- the pins that are shown
 
@@ -48,9 +28,6 @@ same_node a b x kind y n = grind arith
 
 same_spot : (a b : Node) → a.kind ≡ b.kind → is_same_spot a b ≡ true → a ≡ b
 same_spot a b kind h = grind arith
-
-own_spot : (a : Node) → is_same_spot a a ≡ true
-own_spot a = rw (eq-eqb a.x a.x refl) (rw (eq-eqb a.y a.y refl) (eq-eqb a.n a.n refl))
 
 module _ {basis : Basis} (is : IsBasis basis) (rows : List (List ℕ)) (source goal : ℕ) where
   abbrev node : ℕ → Node
@@ -61,17 +38,10 @@ module _ {basis : Basis} (is : IsBasis basis) (rows : List (List ℕ)) (source g
   IsNetPin k = (((k ≡ source) ⊎ IsOutputOf basis (node source) k) ⊎ IsOwnPin basis (node goal) k) ⊎ (k ≡ goal)
 
   is_shown : (kind : NodeKind) → (IsWire kind → ⊥) → (number : ℕ) → number < (graph_of basis).count → (node number).kind ≡ kind → shows basis.strip (terminals_of basis source goal) 0 kind (node number) ≡ true → IsShownPin basis (terminals_of basis source goal) number
-  is_shown kind no_wire number within is_kind shown = record {
-    within = within;
-    no_wire = λ w. no_wire (subst IsWire is_kind w);
-    shown = subst (λ (k : NodeKind). shows basis.strip (terminals_of basis source goal) 0 k (node number) ≡ true) (sym is_kind) shown;
-  }
+  is_shown kind no_wire number within is_kind shown = grind arith
 
   shown_pin : source < (graph_of basis).count → goal < (graph_of basis).count → (node source).kind ≡ Source → (node goal).kind ≡ Sink → (number : ℕ) → IsNetPin number → IsShownPin basis (terminals_of basis source goal) number
-  shown_pin sb gb sk gk number (inl (inl (inl e))) = subst (IsShownPin basis (terminals_of basis source goal)) (sym e) (is_shown Source (λ w. w) source sb sk (own_spot (node source)))
-  shown_pin sb gb sk gk number (inl (inl (inr o))) = is_shown Opin (λ w. w) number o.within o.kind o.own
-  shown_pin sb gb sk gk number (inl (inr o)) = is_shown Ipin (λ w. w) number o.within o.kind o.own
-  shown_pin sb gb sk gk number (inr e) = subst (IsShownPin basis (terminals_of basis source goal)) (sym e) (is_shown Sink (λ w. w) goal gb gk (own_spot (node goal)))
+  shown_pin sb gb sk gk number h5 = grind arith
 
   net_pin : source < (graph_of basis).count → goal < (graph_of basis).count → (node source).kind ≡ Source → (node goal).kind ≡ Sink → (kind : NodeKind) (number : ℕ) → (node number).kind ≡ kind → number < (graph_of basis).count → (IsWire kind → ⊥)
       → shows basis.strip (terminals_of basis source goal) 0 kind (node number) ≡ true → IsNetPin number

@@ -1,5 +1,5 @@
 -- The wires at the sides of a sink's block or pad, by place.
-use Rattle.fabric_planes.proofs.Prelude.{◌≡◌, ℕ, ◌+◌, ◌-◌, ◌<◌, ◌≤◌, true, false, List, cond, refl, ap, subst, sym, ◌∙◌, inl, inr, arith, leb, slice_index, cases_lt, leb-true, le-leb, Arch, Strip, NodeKind, ChanX, ChanY, Node, IsWire, is_node, Basis, IsBasis, graph_of, AreSides, IsPinPlace, IsWireOf, band_of, level_at, upright_at, stride_of, in_column, offset_of, place_of, place_count, IsInStrip, side_places, IsAtSide}
+use Rattle.fabric_planes.proofs.Prelude.{◌≡◌, ℕ, ◌+◌, ◌-◌, ◌<◌, ◌≤◌, true, false, List, cond, refl, ap, subst, sym, ◌∙◌, inl, inr, arith, leb, slice_index, cases_lt, leb-true, Arch, Strip, NodeKind, ChanX, ChanY, Node, IsWire, is_node, Basis, IsBasis, graph_of, AreSides, IsPinPlace, IsWireOf, band_of, level_at, upright_at, stride_of, in_column, offset_of, place_of, place_count, IsInStrip, side_places, IsAtSide}
 use Rattle.fabric_planes.proofs.Strips.{lawful}
 use Rattle.fabric_planes.proofs.Found.{place_low}
 use Rattle.fabric_planes.proofs.Lowered.{by_four}
@@ -88,15 +88,7 @@ module _ (basis : Basis) (is : IsBasis basis) (sink : Node) (inside : IsInStrip 
       side few e
 
   side_all : (side place number : ℕ) → IsWireOf basis place number → IsAtSide sink side (node number).kind (node number).x (node number).y → slice_index (side_places basis sink) side ≡ place
-  side_all side place number w at =
-      by_four (λ side. IsAtSide sink side (node number).kind (node number).x (node number).y → slice_index (side_places basis sink) side ≡ place)
-      (λ at. same_place basis sink.x (node number).x (level_at basis + sink.y) (level_at basis + (node number).y) (omega (arith, at.column)) (omega (arith, at.row)) ∙ sym (place_by basis (node number) ChanX at.kind_is) ∙ w.is_at)
-      (λ at. rw (le-leb 1 sink.y (omega (arith, at.row)))
-      (same_place basis sink.x (node number).x (level_at basis + (sink.y - 1)) (level_at basis + (node number).y) (omega (arith, at.column)) (omega (arith, at.row)) ∙ sym (place_by basis (node number) ChanX at.kind_is) ∙ w.is_at))
-      (λ at. same_place basis sink.x (node number).x (upright_at basis + sink.y) (upright_at basis + (node number).y) (omega (arith, at.column)) (omega (arith, at.row)) ∙ sym (place_by basis (node number) ChanY at.kind_is) ∙ w.is_at)
-      (λ at. rw (le-leb 1 sink.x (omega (arith, at.column)))
-      (same_place basis (sink.x - 1) (node number).x (upright_at basis + sink.y) (upright_at basis + (node number).y) (omega (arith, at.column)) (omega (arith, at.row)) ∙ sym (place_by basis (node number) ChanY at.kind_is) ∙ w.is_at))
-      side at.few at
+  side_all side place number w at = search arith
 
   side_no_pin : (side x offset : ℕ) → side < 4 → IsPinPlace basis x offset → slice_index (side_places basis sink) side ≡ in_column basis x offset → ⊥
   side_no_pin side x offset few pin e =

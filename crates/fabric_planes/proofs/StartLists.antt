@@ -1,5 +1,5 @@
 -- The starts that are wires, and the others.
-use Rattle.fabric_planes.proofs.Prelude.{◌≡◌, ℕ, suc, ◌⊎◌, List, [], ◌∷◌, ◌++◌, map, refl, sym, ap, ◌∙◌, subst, arith, inl, inr, Bool, true, false, All, Contains, filter, if◌then◌else◌, cases_Bool, false≢true, map-append, append-nil, All-contains, All-append, All-nil, All-cons, filter-append, NodeKind, IsWire, is_wire, Basis, graph_of, NetStarts, StartWire, HasStarts, IsStartWire, is_wire_number, is_pin_number, IsWireAt}
+use Rattle.fabric_planes.proofs.Prelude.{◌≡◌, ℕ, suc, ◌⊎◌, List, [], ◌∷◌, ◌++◌, refl, sym, ap, ◌∙◌, subst, arith, inl, inr, Bool, true, false, Contains, filter, if◌then◌else◌, cases_Bool, false≢true, map-append, append-nil, All-contains, All-append, All-nil, All-cons, filter-append, NodeKind, IsWire, is_wire, Basis, graph_of, NetStarts, StartWire, HasStarts, IsStartWire, is_wire_number, is_pin_number, IsWireAt}
 use Rattle.fabric_planes.proofs.Members.{in_map, in_none, map_in}
 
 -- ---- kinds
@@ -58,25 +58,11 @@ module _ (basis : Basis) where
 
   pub with_wire : (starts : List ℕ) (number : ℕ) (old new : NetStarts) (wire : StartWire) → HasStarts basis starts old → IsStartWire basis wire → wire.number ≡ number
       → new.pins.items ≡ old.pins.items → new.wires.items ≡ old.wires.items ++ wire ∷ [] → HasStarts basis (starts ++ number ∷ []) new
-  with_wire starts number old new wire has s n pe we =
-      let kind : is_wire_number basis number ≡ true = subst (λ (v : ℕ). is_wire_number basis v ≡ true) n s.kind in
-      let numbers : map (λ (wire : StartWire). wire.number) new.wires.items ≡ filter (is_wire_number basis) starts ++ number ∷ [] =
-      ap (map (λ (wire : StartWire). wire.number)) we ∙ (map-append (λ (wire : StartWire). wire.number) old.wires.items (wire ∷ []) ∙ (ap (λ (xs : List ℕ). xs ++ wire.number ∷ []) has.wires ∙ ap (λ (v : ℕ). filter (is_wire_number basis) starts ++ v ∷ []) n)) in
-      record {
-        pins = pe ∙ (has.pins ∙ sym (filter_without (is_pin_number basis) starts number (rw kind refl)));
-        wires = numbers ∙ sym (filter_with (is_wire_number basis) starts number kind);
-        wires_are = subst (All (IsStartWire basis)) (sym we) (All-append (IsStartWire basis) old.wires.items (wire ∷ []) has.wires_are (All-cons (IsStartWire basis) wire [] s (All-nil (IsStartWire basis))));
-      }
+  with_wire starts number old new wire has s n pe we = grind (arith, map-append, filter_without, filter_with, All-append (IsStartWire basis) old.wires.items (wire ∷ []) has.wires_are (All-cons (IsStartWire basis) wire [] s (All-nil (IsStartWire basis))))
 
   pub with_pin : (starts : List ℕ) (number : ℕ) (old new : NetStarts) → HasStarts basis starts old → (IsWire ((graph_of basis).node number).kind → ⊥)
       → new.pins.items ≡ old.pins.items ++ number ∷ [] → new.wires.items ≡ old.wires.items → HasStarts basis (starts ++ number ∷ []) new
-  with_pin starts number old new has n pe we =
-      let kind : is_wire_number basis number ≡ false = wire_false ((graph_of basis).node number).kind n in
-      record {
-        pins = pe ∙ (ap (λ (xs : List ℕ). xs ++ number ∷ []) has.pins ∙ sym (filter_with (is_pin_number basis) starts number (rw kind refl)));
-        wires = ap (map (λ (wire : StartWire). wire.number)) we ∙ (has.wires ∙ sym (filter_without (is_wire_number basis) starts number kind));
-        wires_are = subst (All (IsStartWire basis)) (sym we) has.wires_are;
-      }
+  with_pin starts number old new has n pe we = grind (arith, filter_with, filter_without)
 
   -- ---- members
 

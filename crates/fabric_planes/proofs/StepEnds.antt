@@ -1,16 +1,15 @@
 -- The ends of the edges of the places of a net's planes, as the tables list them.
-use Rattle.fabric_planes.proofs.Prelude.{◌≡◌, ℕ, ◌+◌, ◌-◌, ◌*◌, ◌<◌, ◌≤◌, List, [], length, get_or, map, refl, sym, ap, ◌∙◌, subst, inl, inr, arith, true, slice_index, slice_index_or, slice_get, Contains, get_or_from_slice_get, IsNonDecreasing, IsStrictlyIncreasing, and_parts, cases_Bool, cases_eq, length-map, get_or-map, get_or_default, AllPairs-from_increasing, NodeKind, Ipin, Node, joins, sides_at, runs_along, meets_track, flexibility_of, Basis, IsBasis, graph_of, make_node, AreAheads, shown_ends, row_of, base_of, is_there, node_at, plane_of, family_of, IsWireOf, Terminals, place_of, place_count, stride_of, shows, labels_of, planes_of, IsNetSearch, IsAside, ArePins, AreArrivals, HaveEnds, IsAtSide, AreSteps, NO_CLASS, step_view, PinAt, Steps, AreFirsts}
+use Rattle.fabric_planes.proofs.Prelude.{◌≡◌, ℕ, ◌+◌, ◌-◌, ◌*◌, ◌<◌, ◌≤◌, List, [], length, get_or, map, refl, sym, ap, ◌∙◌, subst, inl, inr, arith, true, slice_index, slice_index_or, slice_get, Contains, get_or_from_slice_get, IsNonDecreasing, IsStrictlyIncreasing, and_parts, cases_Bool, cases_eq, length-map, get_or-map, get_or_default, AllPairs-from_increasing, NodeKind, Ipin, Node, joins, sides_at, runs_along, meets_track, flexibility_of, Basis, IsBasis, graph_of, make_node, AreAheads, shown_ends, row_of, base_of, is_there, family_of, IsWireOf, Terminals, place_of, place_count, stride_of, shows, labels_of, planes_of, IsNetSearch, IsAside, ArePins, AreArrivals, HaveEnds, IsAtSide, AreSteps, NO_CLASS, step_view, PinAt, Steps, AreFirsts}
 use Rattle.std.specs.Prelude.{Some}
 use Rattle.fabric_planes.proofs.Alike.{IsEnd, on_track, tracks_alike, wire_row_moved}
 use Rattle.fabric_planes.proofs.Found.{IsFirstFor, first_for}
-use Rattle.fabric_planes.proofs.Labeled.{shown_at}
 use Rattle.fabric_planes.proofs.Nearer.{no_wires}
 use Rattle.fabric_planes.proofs.NetRoads.{tracks_of}
 use Rattle.fabric_planes.proofs.Numbers.{IsWireThere, there_cases, none_listed}
 use Rattle.fabric_planes.proofs.PlaneEnds.{plane_shows, shown_rise}
 use Rattle.fabric_planes.proofs.SideWays.{along_side, wire_meets}
 use Rattle.fabric_planes.proofs.StepRows.{class_some}
-use Rattle.fabric_planes.proofs.Strips.{are_labels, together_parts, wire_shows}
+use Rattle.fabric_planes.proofs.Strips.{together_parts}
 
 module _ (basis : Basis) (sink : Node) where
   abbrev node : ℕ → Node
@@ -39,10 +38,7 @@ module _ {basis : Basis} (is : IsBasis basis) (t : Terminals) (cost : ℕ → �
   -- the ends of a wire, by its place
   ends_there : (track place : ℕ) (w : IsWireThere is t cost starts goal search firsts told track place) → ((planes_of basis cost starts goal t).plane track).ends place ≡ shown_ends basis t track w.number
   unfolding family_of
-  ends_there track place w =
-      let wire = (graph_of basis).node w.number in
-      subst (λ (p : ℕ). ((plane_of (labels_of basis cost starts goal t) track).ends p) ≡ shown_ends basis t track w.number) w.wire.is_at
-      (plane_shows is t cost starts goal search w.number track w.wire.wire.within (wire_shows basis.strip t track wire.kind wire w.wire.wire.wire w.track_is))
+  ends_there track place w = grind (arith, plane_shows)
 
   -- a wire that is not at a side meets no pin of the sink
   no_pins : (track place number : ℕ) → IsWireOf basis place number → IsAside basis t.sink place → (q : Node) → IsEnd is t track number q → q.kind ≡ Ipin → ⊥
@@ -73,10 +69,7 @@ module _ {basis : Basis} (is : IsBasis basis) (t : Terminals) (cost : ℕ → �
   -- the ends of each place rise
   pub plane_rises : (track place : ℕ) → IsStrictlyIncreasing (((planes_of basis cost starts goal t).plane track).ends place)
   unfolding family_of labels_of shown_ends
-  plane_rises track place = elim (cases_Bool (is_there (labels_of basis cost starts goal t) track place)) [
-    | inl there ↦ rw there (shown_rise is t (node_at (labels_of basis cost starts goal t) track place) (shown_at (labels_of basis cost starts goal t) (are_labels is cost starts goal t search) track place there).within track)
-    | inr nothing ↦ rw nothing (λ k b. absurd (omega (arith, b)))
-  ]
+  plane_rises track place = grind (arith, shown_rise)
 
   -- the row of a wire at a side
   pub arrivals_are : (track place side base : ℕ) (rows : List (List ℕ)) (row_firsts list : List ℕ) (w : IsWireThere is t cost starts goal search firsts told track place) → AreArrivals basis t.sink rows row_firsts

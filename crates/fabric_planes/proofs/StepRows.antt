@@ -12,15 +12,11 @@ module _ {basis : Basis} (is : IsBasis basis) where
   first_low place first at = subst (λ (p : ℕ). p < place_count basis) at.is_at (wire_low is first at.within at.first.wire)
 
   few_places : stride_of basis ≤ 638
-  few_places =
-      let pins : length basis.arch.pins ≤ 145 = few_pins basis.arch is.arch in
-      omega (arith, pins, is.strip.io_rat.1, is.strip.rows.1)
+  few_places = grind (arith, few_pins)
 
   -- the rows are few
   pub rows_few : (count : ℕ) → count ≤ place_count basis → most_rows basis count < NO_CLASS
-  rows_few count low =
-      let e : (basis.strip.width + 3) * stride_of basis ≡ (basis.strip.width + 2) * stride_of basis + stride_of basis = grind arith in
-      omega (arith, few_places, e, low)
+  rows_few count low = grind (arith, few_places)
 
   -- the place of a wire has a class
   pub class_some : (steps : Steps) → AreSteps basis steps → (place first : ℕ) → IsFirstAt basis place first → slice_index steps.classes.items place ≡ NO_CLASS → ⊥
@@ -29,29 +25,13 @@ module _ {basis : Basis} (is : IsBasis basis) where
 
   -- one wire is the first of its place
   first_same : (place i j : ℕ) → IsFirstAt basis place i → IsFirstAt basis place j → i ≡ j
-  first_same place i j a b = elim (cases_eq i j) [
-    | inl same ↦ same
-    | inr other ↦ elim (cases_lt i j) [
-      | inl less ↦ absurd (omega (arith, wires_order is i j less b.within a.first.wire b.first.wire (a.first.first ∙ sym b.first.first), a.is_at, b.is_at))
-      | inr more ↦
-          let less : j < i = omega (arith, more, other) in
-          absurd (omega (arith, wires_order is j i less a.within b.first.wire a.first.wire (b.first.first ∙ sym a.first.first), a.is_at, b.is_at))
-    ]
-  ]
+  first_same place i j a b = grind (arith, wires_order)
 
   -- ---- one place after another
 
   -- no wire is at the place
   pub class_skipped : (count : ℕ) (steps : Steps) → AreStepsBelow basis count steps → ((first : ℕ) → IsFirstAt basis count first → ⊥) → AreStepsBelow basis (count + 1) steps
-  class_skipped count steps are none = record {
-    long = are.long;
-    few = omega (arith, are.few);
-    wires = λ place first l at. elim (cases_eq place count) [
-      | inl same ↦ absurd (none first (subst (λ (p : ℕ). IsFirstAt basis p first) same at))
-      | inr before ↦ are.wires place first (omega (arith, l, before)) at
-    ];
-    others = are.others;
-  }
+  class_skipped count steps are none = grind arith
 
   -- the class of a wire is set
   pub class_set : (place first class : ℕ) (old new : Steps) → AreStepsBelow basis place old → IsFirstAt basis place first → new.classes.items ≡ set old.classes.items place class → KeepsRows old.rows new.rows → length new.rows ≤ most_rows basis (place + 1)
@@ -114,10 +94,7 @@ module _ {basis : Basis} (is : IsBasis basis) where
   -- the class of the column before is taken
   pub class_copied : (place first class : ℕ) (old new : Steps) → AreStepsBelow basis place old → IsFirstAt basis place first → IsBefore place first → class ≡ slice_index old.classes.items (place - stride_of basis)
       → new.classes.items ≡ set old.classes.items place class → new.rows ≡ old.rows → AreStepsBelow basis (place + 1) new
-  class_copied place first class old new are at b e items rows =
-      let low : place - stride_of basis < place = omega (arith, b.far) in
-      class_set place first class old new are at items (λ k r found. ap (λ (rs : List (List ℕ)). slice_get rs k) rows ∙ found) (omega (arith, ap length rows, are.few))
-      (ap (λ (rs : List (List ℕ)). slice_get rs class) rows ∙ (ap (slice_get old.rows) e ∙ (are.wires (place - stride_of basis) b.before low b.at ∙ ap Some b.same)))
+  class_copied place first class old new are at b e items rows = grind (arith, class_set place first class old new are)
 
   -- a row more is still few in the first columns and in the last one
   pub row_more : (place first rows more : ℕ) → IsFirstAt basis place first → rows ≤ most_rows basis place → more ≤ rows + 1 → (2 < (node first).x → (node first).x < basis.strip.width → ⊥) → more ≤ most_rows basis (place + 1)

@@ -1,5 +1,5 @@
 -- A strip's routing graph consists of planes.
-use Rattle.fabric_planes.proofs.Prelude.{◌≡◌, ℕ, ◌+◌, ◌*◌, ◌^◌, ◌<◌, ◌≤◌, ◌⊎◌, List, [], ◌∷◌, length, refl, sym, ap, ◌∙◌, subst, inl, inr, arith, true, Some, ◌==◌, ◌&&◌, ◌||◌, nat_le, All, Contains, and_parts, and_from, eqb-true, eq-eqb, leb-true, ltb-true, mul-le, All-contains, All-contains_itself, All-nil, All-cons, few_pins, Strip, NodeKind, Source, Sink, Opin, Ipin, ChanX, ChanY, Node, IsBefore, rank_of, IsWire, is_node, is_slot, is_chan_y, is_together, Basis, IsBasis, IsRoutingGraph, graph_of, get_within, same_kind, member_small, member_of, definition_lawful, ends_few, few_nodes, edge_joins, IsLawful, Leads, IsFamily, AreLabels, Terminals, pins_of, stride_of, place_count, offset_of, place_of, is_same_spot, shows, track_by, graph_at, labels_of, planes_of, AreCosts, IsStart, AreTerminals, IsNetSearch, IsNearby, IsWireAt}
+use Rattle.fabric_planes.proofs.Prelude.{◌≡◌, ℕ, ◌+◌, ◌*◌, ◌^◌, ◌<◌, ◌≤◌, ◌⊎◌, List, [], ◌∷◌, refl, sym, ap, ◌∙◌, subst, inl, inr, arith, true, Some, ◌==◌, ◌&&◌, ◌||◌, nat_le, All, Contains, and_parts, and_from, eqb-true, eq-eqb, leb-true, ltb-true, All-contains, All-contains_itself, All-nil, All-cons, few_pins, Strip, NodeKind, Source, Sink, Opin, Ipin, ChanX, ChanY, Node, IsBefore, rank_of, IsWire, is_node, is_slot, is_chan_y, is_together, Basis, IsBasis, IsRoutingGraph, graph_of, get_within, same_kind, member_small, member_of, definition_lawful, ends_few, few_nodes, edge_joins, IsLawful, Leads, IsFamily, AreLabels, Terminals, pins_of, stride_of, place_count, offset_of, place_of, is_same_spot, shows, track_by, graph_at, labels_of, planes_of, AreCosts, IsStart, AreTerminals, IsNetSearch, IsNearby, IsWireAt}
 use Rattle.fabric_planes.proofs.Labeled.{is_family}
 use Rattle.fabric_planes.proofs.Joins.{IsReached, reached}
 use Rattle.fabric_planes.proofs.Offsets.{low_of, high_of, below_stride, kinds_apart, columns_apart, place_below}
@@ -53,25 +53,13 @@ IsEnd Ipin = Unit {0}
 IsEnd Sink = Unit {0}
 IsEnd _ = ⊥
 
-wire_end : (kind : NodeKind) → IsWire kind → IsEnd kind → ⊥
-wire_end kind w e = grind arith
-
 -- an edge from a pin before a sink, or from a sink, leads to another such node
 end_next : (strip : Strip) (ka kb : NodeKind) (a b : Node) → IsEnd ka → IsReached strip ka kb a b → IsEnd kb
-end_next strip ka Source a b e r = r
-end_next strip ka Sink a b e r = tt
-end_next strip ka Opin a b e r = subst IsEnd r.0 e
-end_next strip ka Ipin a b e r = tt
-end_next strip ka ChanX a b e (inl o) = subst IsEnd o e
-end_next strip ka ChanX a b e (inr w) = absurd (wire_end ka w.0 e)
-end_next strip ka ChanY a b e (inl o) = subst IsEnd o e
-end_next strip ka ChanY a b e (inr w) = absurd (wire_end ka w.0 e)
+end_next strip ka kb a b e r = grind arith
 
 -- such a node is no wire
 end_track : (kind : NodeKind) (n track other : ℕ) → IsEnd kind → track_by kind n ≡ Some other → other ≡ track
-end_track Sink n track other i e = cc
-end_track Ipin n track other i e = cc
-end_track _ n track other i e = absurd i
+end_track kind n track other i e = grind arith
 
 -- the track of a wire is its number
 pub track_number : (kind : NodeKind) (n track : ℕ) → track_by kind n ≡ Some track → IsWire kind × (n ≡ track)
@@ -126,45 +114,17 @@ module _ {basis : Basis} (is : IsBasis basis) where
 
     stays : (rest : List ℕ) → Stays rest
     stays [] i track b t l = All-nil (On track)
-    stays (j ∷ rest) i track b t l =
-        let r = edge_reached i j b l.0 in
-        stays_more (node j).kind j rest i track refl b t r.0 r.1 l.1 (stays rest)
+    stays (j ∷ rest) i track b t l = grind (arith, stays_more, edge_reached i j b l.0, stays rest)
 
     -- a sink leads nowhere
     pub sink_last : (rest : List ℕ) (i : ℕ) → i < (graph_of basis).count → (node i).kind ≡ Sink → Leads (graph_at basis cost) goal i rest → (i ≡ goal) × (rest ≡ [])
     sink_last [] i b e l = (l, refl)
-    sink_last (j ∷ rest) i b e l =
-        let r = edge_reached i j b l.0 in
-        absurd (none (node j).kind (node i) (node j) (subst (λ k. IsReached basis.strip k (node j).kind (node i) (node j)) e r.1))
-      where
-        none : (kb : NodeKind) (a b : Node) → IsReached basis.strip Sink kb a b → ⊥
-        none Sink a b r = cc
-        none Opin a b r = cc
-        none ChanX a b (inl o) = cc
-        none ChanX a b (inr w) = w.0
-        none ChanY a b (inl o) = cc
-        none ChanY a b (inr w) = w.0
-        none _ a b r = r
+    sink_last (j ∷ rest) i b e l = grind (arith, edge_reached i j b l.0)
 
     -- an input pin leads to a sink of its block
     pin_last : (rest : List ℕ) (i : ℕ) → i < (graph_of basis).count → (node i).kind ≡ Ipin → (node goal).kind ≡ Sink → Leads (graph_at basis cost) goal i rest → is_together basis.strip (node i) (node goal) ≡ true
-    pin_last [] i b e k l = absurd (none (sym e ∙ (ap (λ v. (node v).kind) l ∙ k)))
-      where
-        none : Ipin ≡ Sink → ⊥
-        none q = cc
-    pin_last (j ∷ rest) i b e k l =
-        let r = edge_reached i j b l.0 in
-        let s = only (node j).kind (node i) (node j) (subst (λ k. IsReached basis.strip k (node j).kind (node i) (node j)) e r.1) in
-        subst (λ v. is_together basis.strip (node i) (node v) ≡ true) (sink_last rest j r.0 s.0 l.1).0 s.1
-      where
-        only : (kb : NodeKind) (a b : Node) → IsReached basis.strip Ipin kb a b → (kb ≡ Sink) × (is_together basis.strip a b ≡ true)
-        only Sink a b r = (refl, r.1)
-        only Opin a b r = cc
-        only ChanX a b (inl o) = cc
-        only ChanX a b (inr w) = absurd w.0
-        only ChanY a b (inl o) = cc
-        only ChanY a b (inr w) = absurd w.0
-        only _ a b r = absurd r
+    pin_last [] i b e k l = grind arith
+    pin_last (j ∷ rest) i b e k l = grind (arith, sink_last, edge_reached i j b l.0)
 
   -- ---- places
 
@@ -173,14 +133,7 @@ module _ {basis : Basis} (is : IsBasis basis) where
 
   -- a node is among the places of its kind
   offset_in : (i : ℕ) → i < (graph_of basis).count → (low_of basis (node i).kind ≤ offset_of basis (node i).kind (node i)) × (offset_of basis (node i).kind (node i) < high_of basis (node i).kind)
-  offset_in i b = in_kind (node i).kind (node i) (slot_of i b)
-    where
-      in_kind : (kind : NodeKind) (v : Node) → IsSlot basis kind v → (low_of basis kind ≤ offset_of basis kind v) × (offset_of basis kind v < high_of basis kind)
-      in_kind Opin v s = (omega arith, omega (arith, s))
-      in_kind Ipin v s = (omega arith, omega (arith, s))
-      in_kind ChanX v s = (omega arith, omega (arith, s.0))
-      in_kind ChanY v s = (omega arith, omega (arith, s.0))
-      in_kind _ v s = (omega arith, omega arith)
+  offset_in i b = grind (arith, slot_of i b)
 
   pub offset_few : (i : ℕ) → i < (graph_of basis).count → offset_of basis (node i).kind (node i) < stride_of basis
   offset_few i b = omega (arith, (offset_in i b).1, below_stride basis (node i).kind)
@@ -196,26 +149,7 @@ module _ {basis : Basis} (is : IsBasis basis) where
     row_order : (track i j : ℕ) → i < j → i < (graph_of basis).count → j < (graph_of basis).count → (kind : NodeKind) → (node i).kind ≡ kind → (node j).kind ≡ kind
         → shows basis.strip t track kind (node i) ≡ true → shows basis.strip t track kind (node j) ≡ true
         → ((node i).y < (node j).y) ⊎ (((node i).y ≡ (node j).y) × ((node i).n < (node j).n)) → offset_of basis kind (node i) < offset_of basis kind (node j)
-    row_order track i j l bi bj Source ki kj si sj r =
-        let e = spot_parts (node i) t.source si in
-        let f = spot_parts (node j) t.source sj in
-        absurd (elim r [ inl y ↦ omega (arith, y, e.1, f.1) | inr n ↦ omega (arith, n.1, e.2, f.2) ])
-    row_order track i j l bi bj Sink ki kj si sj r =
-        let e = spot_parts (node i) t.sink si in
-        let f = spot_parts (node j) t.sink sj in
-        absurd (elim r [ inl y ↦ omega (arith, y, e.1, f.1) | inr n ↦ omega (arith, n.1, e.2, f.2) ])
-    row_order track i j l bi bj Opin ki kj si sj r =
-        let e = together_parts basis.strip t.source (node i) si in
-        let f = together_parts basis.strip t.source (node j) sj in
-        elim r [ inl y ↦ absurd (omega (arith, y, e.1, f.1)) | inr n ↦ omega (arith, n.1) ]
-    row_order track i j l bi bj Ipin ki kj si sj r =
-        let e = together_parts basis.strip (node i) t.sink si in
-        let f = together_parts basis.strip (node j) t.sink sj in
-        elim r [ inl y ↦ absurd (omega (arith, y, e.1, f.1)) | inr n ↦ omega (arith, n.1) ]
-    row_order track i j l bi bj ChanX ki kj si sj (inl y) = omega (arith, y)
-    row_order track i j l bi bj ChanX ki kj si sj (inr n) = absurd (omega (arith, n.1, eqb-true (node i).n track si, eqb-true (node j).n track sj))
-    row_order track i j l bi bj ChanY ki kj si sj (inl y) = omega (arith, y)
-    row_order track i j l bi bj ChanY ki kj si sj (inr n) = absurd (omega (arith, n.1, eqb-true (node i).n track si, eqb-true (node j).n track sj))
+    row_order track i j l bi bj kind ki kj si sj r = grind (arith, eqb-true)
 
     kind_order : (track i j : ℕ) → i < j → i < (graph_of basis).count → j < (graph_of basis).count → Shown track i → Shown track j
         → (rank_of (node i).kind < rank_of (node j).kind) ⊎ ((rank_of (node i).kind ≡ rank_of (node j).kind) × (((node i).y < (node j).y) ⊎ (((node i).y ≡ (node j).y) × ((node i).n < (node j).n))))
@@ -239,8 +173,7 @@ module _ {basis : Basis} (is : IsBasis basis) where
     -- ---- what planes show
 
     goal_shown : (track : ℕ) → Shown t track goal
-    goal_shown track =
-        subst (λ kind. shows basis.strip t track kind (node goal) ≡ true) (sym (ap (λ (v : Node). v.kind) terminals.goal_is ∙ terminals.kind)) (spot_itself (node goal) t.sink terminals.goal_is)
+    goal_shown track = grind arith
 
     module _ (cost : ℕ → ℕ) where
       -- a pin before the sink, the sink and wires of the track are shown
@@ -249,42 +182,24 @@ module _ {basis : Basis} (is : IsBasis basis) where
       rest_shown track i rest b on l Source k source output = source refl
       rest_shown track i rest b on l Sink k source output = spot_itself (node i) t.sink (ap node (sink_last cost goal rest i b k l).0 ∙ terminals.goal_is)
       rest_shown track i rest b on l Opin k source output = output refl
-      rest_shown track i rest b on l Ipin k source output =
-          subst (λ v. is_together basis.strip (node i) v ≡ true) terminals.goal_is (pin_last cost goal rest i b k (ap (λ (v : Node). v.kind) terminals.goal_is ∙ terminals.kind) l)
+      rest_shown track i rest b on l Ipin k source output = grind (arith, pin_last)
       rest_shown track i rest b on l ChanX k source output = eq-eqb (node i).n track (on (node i).n (rw k refl))
       rest_shown track i rest b on l ChanY k source output = eq-eqb (node i).n track (on (node i).n (rw k refl))
 
       start_shown : (track i : ℕ) (rest : List ℕ) → IsStart basis t i → On track i → Leads (graph_at basis cost) goal i rest → Shown t track i
-      start_shown track i rest s on l =
-          rest_shown track i rest s.within on l (node i).kind refl s.source s.output
-
-      end_own : (track i j : ℕ) (ka kb : NodeKind) → ka ≡ (node i).kind → Shown t track i → IsReached basis.strip ka kb (node i) (node j) → (kb ≡ Source → shows basis.strip t track Source (node j) ≡ true) × (kb ≡ Opin → shows basis.strip t track Opin (node j) ≡ true)
-      end_own track i j ka Source k s r = absurd r
-      end_own track i j ka Opin k s r =
-          (λ e. cc, λ e. together_spot basis.strip (node i) t.source (node j) (subst (λ kind. shows basis.strip t track kind (node i) ≡ true) (sym k ∙ r.0) s) r.1)
-      end_own track i j ka _ k s r = (λ e. cc, λ e. cc)
+      start_shown track i rest s on l = grind (arith, rest_shown)
 
       end_shown : (track i j : ℕ) (rest : List ℕ) → i < (graph_of basis).count → Shown t track i → Contains ((graph_of basis).ends i) j → On track j → Leads (graph_at basis cost) goal j rest → Shown t track j
-      end_shown track i j rest b s c on l =
-          let r = edge_reached i j b c in
-          let own = end_own track i j (node i).kind (node j).kind refl s r.1 in
-          rest_shown track j rest r.0 on l (node j).kind refl own.0 own.1
+      end_shown track i j rest b s c on l = grind (arith, rest_shown, together_spot, edge_reached i j b c)
 
   -- ---- all
 
   -- the number of a wire is that of a track
   pub track_low : (i : ℕ) → IsWireAt basis i → (node i).n < basis.arch.tracks
-  track_low i w = number_low (node i).kind (node i) w.wire (slot_facts basis (node i).kind (node i) (node_slot basis (node i) (lawful.nodes i w.within)))
-    where
-      number_low : (kind : NodeKind) (v : Node) → IsWire kind → IsSlot basis kind v → v.n < basis.arch.tracks
-      number_low ChanX v w s = s.1
-      number_low ChanY v w s = s.1
-      number_low _ v w s = absurd w
+  track_low i w = grind (arith, slot_facts basis (node i).kind (node i) (node_slot basis (node i) (lawful.nodes i w.within)))
 
   wire_low : (i track : ℕ) → i < (graph_of basis).count → track_by (node i).kind (node i).n ≡ Some track → track < basis.arch.tracks
-  wire_low i track b e =
-      let w = track_number (node i).kind (node i).n track e in
-      subst (λ (v : ℕ). v < basis.arch.tracks) w.1 (track_low i (record { within = b; wire = w.0 }))
+  wire_low i track b e = grind (arith, track_low)
 
   graph_lawful : (cost : ℕ → ℕ) → AreCosts basis cost → IsLawful (graph_at basis cost)
   graph_lawful cost costs = record {
@@ -299,11 +214,7 @@ module _ {basis : Basis} (is : IsBasis basis) where
       All-from_contains xs each = λ k d b. each _ (All-contains_itself xs k d b)
 
   pub places_few : place_count basis ≤ 2 ^ 22
-  places_few =
-      let pins : length basis.arch.pins ≤ 145 = few_pins basis.arch is.arch in
-      let columns : basis.strip.width + 3 ≤ 259 = omega (arith, is.strip.width.1) in
-      let stride : stride_of basis ≤ 638 = omega (arith, pins, is.strip.io_rat.1, is.strip.rows.1) in
-      omega (arith, mul-le (basis.strip.width + 3) (stride_of basis) 259 638 columns stride)
+  places_few = grind (arith, few_pins)
 
   pub are_labels : (cost : ℕ → ℕ) (starts : List ℕ) (goal : ℕ) (t : Terminals) → IsNetSearch basis cost starts goal t → AreLabels (labels_of basis cost starts goal t)
   unfolding labels_of
@@ -327,12 +238,7 @@ module _ {basis : Basis} (is : IsBasis basis) where
 
   -- the row of a wire
   pub wire_row : (i : ℕ) → i < (graph_of basis).count → IsWire (node i).kind → (node i).y ≤ basis.strip.rows
-  wire_row i b w = row_low (node i).kind (node i) w (slot_facts basis (node i).kind (node i) (node_slot basis (node i) (lawful.nodes i b)))
-    where
-      row_low : (kind : NodeKind) (v : Node) → IsWire kind → IsSlot basis kind v → v.y ≤ basis.strip.rows
-      row_low ChanX v w s = s.0
-      row_low ChanY v w s = s.0
-      row_low _ v w s = absurd w
+  wire_row i b w = grind (arith, node_slot basis (node i) (lawful.nodes i b))
 
 -- a node's fields are within their limits
 pub node_fields : {basis : Basis} → IsBasis basis → (v : Node) → is_node basis.arch basis.strip v ≡ true → IsNearby v

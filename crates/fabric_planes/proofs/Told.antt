@@ -5,14 +5,7 @@ use Rattle.fabric_planes.proofs.Consecutive.{wires_order}
 module _ (basis : Basis) where
   -- the node is no wire of the first track
   pub told_skip : (count : ℕ) (table : List ℕ) → AreFirstsBelow basis count table → (IsFirstWire ((graph_of basis).node count) → ⊥) → AreFirstsBelow basis (count + 1) table
-  told_skip count table told other = record {
-    long = told.long;
-    wires = λ place number l at. elim (cases_eq number count) [
-      | inl same ↦ absurd (other (subst (λ v. IsFirstWire ((graph_of basis).node v)) same at.first))
-      | inr before ↦ told.wires place number (omega (arith, l, before)) at
-    ];
-    others = λ place b nothing. told.others place b (λ number l at. nothing number (omega (arith, l)) at);
-  }
+  told_skip count table told other = search arith
 
   -- one more wire of the first track
   pub told_more : IsBasis basis → (count place : ℕ) (table : List ℕ) → AreFirstsBelow basis count table → IsFirstAt basis place count → place < place_count basis → AreFirstsBelow basis (count + 1) (set table place count)

@@ -1,6 +1,6 @@
 -- Lists of the starts of a track.
 use Rattle.fabric_planes.proofs.Prelude.{◌≡◌, ℕ, ◌+◌, ◌<◌, ◌⊎◌, List, [], ◌∷◌, ◌++◌, length, sym, ap, ◌∙◌, subst, inl, inr, true, arith, Contains, slice_index, slice_index_or, NodeKind, Node, IsWire, Basis, IsBasis, graph_of, Family, AreStarts, IsTooFar, places_of, Start, NetStarts, StartWire, IsWireOf, Terminals, place_of, shows, planes_of, IsNetSearch, AddsWires, AreSomeStarts, HasStarts, IsStartOf, IsStartWire, KeepsStarts}
-use Rattle.fabric_planes.proofs.ListedStarts.{IsShownIn, entry_of, entry_start, below, place_kept, place_last}
+use Rattle.fabric_planes.proofs.ListedStarts.{IsShownIn, entry_of, entry_start, place_kept, place_last}
 use Rattle.fabric_planes.proofs.Found.{cases_wire}
 use Rattle.fabric_planes.proofs.StartLists.{pin_in, wire_from, wire_in, wire_of, wire_of_start}
 use Rattle.fabric_planes.proofs.WireBounds.{wire_shown}
@@ -24,39 +24,20 @@ module _ (basis : Basis) (t : Terminals) (cost : ℕ → ℕ) (starts : List ℕ
   HasPins pins track count list = (k : ℕ) → k < count → IsShownIn basis t cost starts goal track (slice_index pins k) → Contains (places_of list) (place_of basis (node (slice_index pins k)))
 
   pub pins_skip : (pins : List ℕ) (track count : ℕ) (list : List Start) → HasPins pins track count list → (IsShownIn basis t cost starts goal track (slice_index pins count) → ⊥) → HasPins pins track (count + 1) list
-  pins_skip pins track count list has none k b s = elim (below k count b) [
-    | inl l ↦ has k l s
-    | inr e ↦ absurd (none (subst (λ (v : ℕ). IsShownIn basis t cost starts goal track (slice_index pins v)) e s))
-  ]
+  pins_skip pins track count list has none k b s = grind arith
 
   pub pins_more : (pins : List ℕ) (track count : ℕ) (list : List Start) (start : Start) → HasPins pins track count list → start.place ≡ place_of basis (node (slice_index pins count)) → HasPins pins track (count + 1) (list ++ start ∷ [])
-  pins_more pins track count list start has at k b s = elim (below k count b) [
-    | inl l ↦ place_kept list start (place_of basis (node (slice_index pins k))) (has k l s)
-    | inr e ↦ place_last list start (place_of basis (node (slice_index pins k))) (at ∙ ap (λ (v : ℕ). place_of basis (node (slice_index pins v))) (sym e))
-  ]
+  pins_more pins track count list start has at k b s = grind (arith, place_kept, place_last)
 
   -- ---- wires
 
   pub wires_skip : (wires : List StartWire) (track most count : ℕ) (list : List Start) (wire : StartWire) → AddsWires F track most count wires list → ((other : StartWire) → slice_index_or wires count other ≡ wire)
       → (wire.track ≡ track → IsTooFar F track most wire.place) → AddsWires F track most (count + 1) wires list
-  wires_skip wires track most count list wire adds is far k other b e on = elim (below k count b) [
-    | inl l ↦ adds k other l e on
-    | inr same ↦
-        let here : wire ≡ other = sym (is other) ∙ (ap (λ (k : ℕ). slice_index_or wires k other) (sym same) ∙ e) in
-        inr (subst (λ (w : StartWire). IsTooFar F track most w.place) here (far (ap (λ (w : StartWire). w.track) here ∙ on)))
-  ]
+  wires_skip wires track most count list wire adds is far k other b e on = grind arith
 
   pub wires_more : (wires : List StartWire) (track most count : ℕ) (list : List Start) (wire : StartWire) (start : Start) → AddsWires F track most count wires list → ((other : StartWire) → slice_index_or wires count other ≡ wire)
       → start.place ≡ wire.place → AddsWires F track most (count + 1) wires (list ++ start ∷ [])
-  wires_more wires track most count list wire start adds is at k other b e on = elim (below k count b) [
-    | inl l ↦ elim (adds k other l e on) [
-      | inl c ↦ inl (place_kept list start other.place c)
-      | inr far ↦ inr far
-    ]
-    | inr same ↦
-        let here : wire ≡ other = sym (is other) ∙ (ap (λ (k : ℕ). slice_index_or wires k other) (sym same) ∙ e) in
-        inl (place_last list start other.place (at ∙ ap (λ (w : StartWire). w.place) here))
-  ]
+  wires_more wires track most count list wire start adds is at k other b e on = grind (arith, place_kept, place_last)
 
   -- a wire among the starts is at an entry
   pub wire_entry : IsBasis basis → IsNetSearch basis cost starts goal t → (net : NetStarts) → HasStarts basis starts net → (track : ℕ) (wire : StartWire) (start : Start) → Contains net.wires.items wire → IsStartOf F track wire start

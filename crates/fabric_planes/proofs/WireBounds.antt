@@ -1,7 +1,6 @@
 -- Lower bounds of the ways from a wire in its track's plane.
-use Rattle.fabric_planes.proofs.Prelude.{◌≡◌, ℕ, ◌+◌, ◌*◌, ◌<◌, ◌≤◌, List, [], ◌∷◌, sym, ap, subst, inl, inr, arith, true, slice_index, sum_by, NodeKind, Node, IsWire, Basis, IsBasis, graph_of, IsLowerBound, AreAheads, AreFars, HaveBounds, wires_apart, IsWireOf, Terminals, shows, labels_of, planes_of, IsNetSearch, IsAtSide, IsBySide, IsWireAt}
+use Rattle.fabric_planes.proofs.Prelude.{◌≡◌, ℕ, ◌+◌, ◌*◌, ◌<◌, ◌≤◌, List, [], ◌∷◌, sym, subst, arith, true, slice_index, sum_by, NodeKind, Node, IsWire, Basis, IsBasis, graph_of, IsLowerBound, AreAheads, AreFars, HaveBounds, wires_apart, IsWireOf, Terminals, shows, labels_of, planes_of, IsNetSearch, IsAtSide, IsBySide, IsWireAt}
 use Rattle.std.specs.Prelude.{Some}
-use Rattle.fabric_planes.proofs.Lowered.{by_four}
 use Rattle.fabric_planes.proofs.Nearer.{no_wires}
 use Rattle.fabric_planes.proofs.PlaneWays.{wire_way}
 
@@ -23,44 +22,23 @@ module _ (basis : Basis) (sink : Node) where
       → ((side last : ℕ) → IsWireAt basis last → At side last → far side ≤ wires_apart (node number) (node last))
       → ((side : ℕ) → side < 4 → r ≤ far side + slice_index lasts (side * basis.arch.tracks + track))
       → (node number).n ≡ track → By pins lasts number sum → r ≤ sum
-  sharp_low pins lasts far track number sum r aside near low track_is by = elim by.far [
-    | inl own ↦ absurd (aside by.side own)
-    | inr more ↦
-        let last : slice_index lasts (by.side * basis.arch.tracks + (node number).n) ≡ slice_index lasts (by.side * basis.arch.tracks + track) = ap (λ (n : ℕ). slice_index lasts (by.side * basis.arch.tracks + n)) track_is in
-        omega (arith, more, near by.side by.last by.wire by.at, low by.side by.at.few, last)
-  ]
+  sharp_low pins lasts far track number sum r aside near low track_is by = grind arith
 
   -- a wire of which the table tells wires ahead is at no side
   pub far_aside : (aheads : List ℕ) (place number : ℕ) → AreAheads basis sink aheads → (slice_index aheads place ≡ 0 → ⊥) → IsWireOf basis place number → (side : ℕ) → At side number → ⊥
-  far_aside aheads place number are some w side own =
-      let none : slice_index aheads place ≤ 0 = subst (λ (d : ℕ). slice_index aheads place ≤ d) (no_wires (node number)) (are.wires place number side number w w.wire own) in
-      some (omega (arith, none))
+  far_aside aheads place number are some w side own = grind (arith, no_wires (node number))
 
   -- the distances from the sides
   pub fars_near : (top bottom right left : List ℕ) (place number : ℕ) → AreFars basis sink 0 top → AreFars basis sink 1 bottom → AreFars basis sink 2 right → AreFars basis sink 3 left → IsWireOf basis place number
       → (side last : ℕ) → IsWireAt basis last → At side last
       → slice_index (slice_index top place ∷ slice_index bottom place ∷ slice_index right place ∷ slice_index left place ∷ []) side ≤ wires_apart (node number) (node last)
-  fars_near top bottom right left place number a b c d w side last at_last at =
-      by_four (λ (side : ℕ). At side last → slice_index (slice_index top place ∷ slice_index bottom place ∷ slice_index right place ∷ slice_index left place ∷ []) side ≤ wires_apart (node number) (node last))
-      (λ at. a.wires place number last w at_last at)
-      (λ at. b.wires place number last w at_last at)
-      (λ at. c.wires place number last w at_last at)
-      (λ at. d.wires place number last w at_last at)
-      side at.few at
+  fars_near top bottom right left place number a b c d w side last at_last at = search arith
 
   -- the least of the sums over four sides
   pub least_sum : (lasts : List ℕ) (n track top bottom right left r : ℕ) → n ≡ basis.arch.tracks → r ≤ top + slice_index lasts track → r ≤ bottom + slice_index lasts (n + track)
       → r ≤ right + slice_index lasts (2 * n + track) → r ≤ left + slice_index lasts (3 * n + track)
       → (side : ℕ) → side < 4 → r ≤ slice_index (top ∷ bottom ∷ right ∷ left ∷ []) side + slice_index lasts (side * basis.arch.tracks + track)
-  least_sum lasts n track top bottom right left r e a b c d side few =
-      subst (λ (m : ℕ). r ≤ slice_index (top ∷ bottom ∷ right ∷ left ∷ []) side + slice_index lasts (side * m + track)) e
-      (by_four (λ (side : ℕ). r ≤ slice_index (top ∷ bottom ∷ right ∷ left ∷ []) side + slice_index lasts (side * n + track))
-      (at lasts top r track (0 * n + track) (omega arith) a)
-      (at lasts bottom r (n + track) (1 * n + track) (omega arith) b)
-      c d side few)
-    where
-      at : (lasts : List ℕ) (far r k l : ℕ) → k ≡ l → r ≤ far + slice_index lasts k → r ≤ far + slice_index lasts l
-      at lasts far r k l e h = subst (λ (k : ℕ). r ≤ far + slice_index lasts k) e h
+  least_sum lasts n track top bottom right left r e a b c d side few = grind arith
 
 module _ {basis : Basis} (is : IsBasis basis) (t : Terminals) (cost : ℕ → ℕ) (starts : List ℕ) (goal : ℕ) (search : IsNetSearch basis cost starts goal t) where
   -- a bound of the costs by sides is one of the ways

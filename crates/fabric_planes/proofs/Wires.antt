@@ -1,5 +1,5 @@
 -- The wires of a strip.
-use Rattle.fabric_planes.proofs.Prelude.{◌≡◌, ℕ, ◌<◌, ◌≤◌, true, arith, ltb-true, NodeKind, ChanY, IsWire, is_node, Basis, make_node}
+use Rattle.fabric_planes.proofs.Prelude.{◌≡◌, ℕ, ◌<◌, ◌≤◌, true, arith, NodeKind, IsWire, is_node, Basis, make_node}
 
 -- ---- wires of the strip
 
@@ -14,9 +14,6 @@ pub record IsUpright (basis : Basis) (x y n : ℕ) : Type 0 where
   pub from : 1 ≤ y
   pub row : y ≤ basis.strip.rows
   pub track : n < basis.arch.tracks
-
-pub upright_facts : (basis : Basis) (x y n : ℕ) → is_node basis.arch basis.strip (make_node x ChanY y n) ≡ true → IsUpright basis x y n
-upright_facts basis x y n h = grind (arith, ltb-true)
 
 -- the wire of each track at the place of a wire
 pub each_track : (basis : Basis) (kind : NodeKind) (x y n m : ℕ) → IsWire kind → m < basis.arch.tracks → is_node basis.arch basis.strip (make_node x kind y n) ≡ true → is_node basis.arch basis.strip (make_node x kind y m) ≡ true

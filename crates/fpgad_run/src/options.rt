@@ -172,9 +172,7 @@ fn options_by<'a, S: AsStr>(
     words: &'a [S],
 ) -> Result<CommandLine<'a>, Error> {
     let given = read_words(alloc, program, words)?;
-    let line = CommandLine::of(&given);
-    drop(given);
-    match line {
+    match CommandLine::of(&given) {
         Ok(line) => Ok(line),
         Err(why) => Err(refusal(alloc, program, words, why)),
     }

@@ -1,5 +1,5 @@
 -- Whose the lines are that are handed over.
-use Rattle.front_lines.proofs.Prelude.{◌≡◌, ℕ, List, [], ◌∷◌, ◌++◌, Bool, true, ◌&&◌, ◌||◌, map, refl, sym, ap, ◌∙◌, arith, list_all, list_any, bytes_eq, physical_lines, Tagged, are_of, have_tags, is_tag, is_whole, output_of, tag_of, both, lines as lines_are, whole as whole_is, with_marks, tag_in, Speaker, ClientState, Item, handed, handed_for, item_of, state_after, HandOver, Nothing, Refuse}
+use Rattle.front_lines.proofs.Prelude.{◌≡◌, ℕ, List, [], ◌∷◌, ◌++◌, Bool, true, ◌&&◌, ◌||◌, map, refl, ap, ◌∙◌, arith, list_all, list_any, bytes_eq, physical_lines, Tagged, are_of, have_tags, is_tag, is_whole, output_of, tag_of, both, lines as lines_are, whole as whole_is, with_marks, tag_in, Speaker, ClientState, Item, handed, handed_for, item_of, state_after, HandOver, Nothing, Refuse}
 
 abbrev commands_in : Speaker → Item → List (List ℕ)
 commands_in who Nothing = []

@@ -5,14 +5,13 @@ pub use Rattle.std.proofs.lemmas.Grind.{flat_map-append}
 pub use Rattle.std.proofs.lemmas.List.Sums.{fold-append}
 pub use Rattle.std.specs.Io.KnownBytes.{Appends, Consumes, IsAtEnd, Keeps, prepend_known}
 pub use Rattle.std.specs.List.{flat_map, list_all, list_any}
-pub use Rattle.std.specs.Prelude.{IfSome}
 pub use Rattle.std.specs.Str.{bytes_eq}
 pub use Rattle.front_lines.specs.Commands.{ClientState, Item, handed, handed_for, item_in, item_of, state_after, state_from}
 pub use Rattle.front_lines.specs.Commands.Item.{HandOver, Nothing, Refuse}
 pub use Rattle.front_lines.specs.Exchanges.{AreTold, Asks, ends_reply, refusal_text, told_for}
-pub use Rattle.front_lines.specs.LinesRead.{HasBytes, HasLine, HasPaused, ReadsOn, to_come}
+pub use Rattle.front_lines.specs.LinesRead.{HasLine, HasPaused, ReadsOn, to_come}
 pub use Rattle.front_lines.specs.Prelude.{IsKept, View, ahead_of, ended_lines, is_one_line, is_tag, is_whole, kept_of, line_of, physical_lines, tag_of, with_feed}
-pub use Rattle.front_lines.specs.Serving.{Answers, HandsPart, HasReply, HasSeen, HasServed, HasServedAll, TakesTurn, TellsNothing, TellsPart}
+pub use Rattle.front_lines.specs.Serving.{Answers, HasReply, HasSeen, HasServed, HasServedAll, TakesTurn, TellsNothing, TellsPart}
 pub use Rattle.front_lines.specs.Speakers.{is_last, own_text, tag_in, told_after, with_marks}
 pub use Rattle.front_lines.specs.declared.refusal.Refusal.{Refusal}
 pub use Rattle.front_lines.specs.declared.speaker.Speaker.{Speaker}

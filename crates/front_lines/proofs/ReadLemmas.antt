@@ -1,5 +1,5 @@
 -- An input that is read line by line.
-use Rattle.front_lines.proofs.Prelude.{◌≡◌, ℕ, List, [], ◌∷◌, ◌++◌, Bool, true, false, Option, None, Some, refl, sym, ap, ◌∙◌, subst, append-nil, append_assoc, arith, Appends, Consumes, IsAtEnd, prepend_known, Appends-trans, Consumes-trans, View, ReadsAhead, IsKept, TakesPiece, is_one_line, both_lines, with_feed, HasLine, HasPaused}
+use Rattle.front_lines.proofs.Prelude.{◌≡◌, ℕ, List, [], ◌∷◌, ◌++◌, true, false, Option, None, Some, refl, sym, ap, ◌∙◌, subst, append-nil, append_assoc, arith, Appends, Consumes, IsAtEnd, prepend_known, Appends-trans, Consumes-trans, View, ReadsAhead, IsKept, TakesPiece, is_one_line, both_lines, with_feed, HasLine, HasPaused}
 
 -- the line that had begun goes on with this part
 pub record Reading (old now : Option (List ℕ)) (kept kept_now : List ℕ) : Type 0 where

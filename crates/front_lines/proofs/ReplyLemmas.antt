@@ -1,5 +1,5 @@
 -- A reply that is read line by line.
-use Rattle.front_lines.proofs.Prelude.{◌≡◌, ℕ, List, [], ◌∷◌, ◌++◌, Bool, true, false, not, ◌&&◌, cond, map, Option, refl, sym, ap, ◌∙◌, arith, list_all, Consumes-trans, fold-append, IsKept, is_one_line, kept_of, lines_push, not_false, whole_lines, both, is_last, told_after, own_text, Speaker, ends_reply, HasLine, HasReply, HasSeen}
+use Rattle.front_lines.proofs.Prelude.{◌≡◌, ℕ, List, [], ◌∷◌, ◌++◌, Bool, true, false, not, ◌&&◌, cond, map, Option, refl, sym, ap, ◌∙◌, arith, list_all, Consumes-trans, fold-append, IsKept, kept_of, lines_push, not_false, whole_lines, both, is_last, told_after, own_text, Speaker, ends_reply, HasLine, HasReply, HasSeen}
 
 abbrev goes_on : Speaker → List ℕ → Bool
 goes_on who line = not (is_last who line)

@@ -1,5 +1,5 @@
 -- A client that is served.
-use Rattle.front_lines.proofs.Prelude.{◌⊎◌, inl, inr, ◌≡◌, ℕ, suc, ◌+◌, List, [], ◌∷◌, ◌++◌, length, take, Bool, true, ◌&&◌, map, Option, refl, sym, ap, ◌∙◌, subst, arith, append-nil, append_assoc, IfSome, flat_map, list_all, Appends, Consumes, IsAtEnd, Keeps, prepend_known, Appends-nil, Appends-trans, Consumes-kept, Consumes-nil, Consumes-trans, Consumes-whole, flat_map-append, IsKept, is_one_line, kept_of, ended_lines, ended_then, lines_push, none_ended, whole_lines, with_feed, both, Speaker, ClientState, handed as all_handed, handed_for, item_of, state_after, state_from, AreTold, Asks, told_for, HasBytes, HasLine, HasPaused, Answers, HandsPart, HasSeen, HasServed, HasServedAll, TakesTurn, TellsNothing, TellsPart}
+use Rattle.front_lines.proofs.Prelude.{◌⊎◌, inl, inr, ◌≡◌, ℕ, suc, ◌+◌, List, [], ◌∷◌, ◌++◌, length, take, Bool, true, ◌&&◌, map, Option, refl, sym, ap, ◌∙◌, subst, arith, append-nil, append_assoc, flat_map, list_all, Appends, Consumes, Keeps, prepend_known, Appends-nil, Appends-trans, Consumes-kept, Consumes-trans, Consumes-whole, flat_map-append, IsKept, is_one_line, kept_of, ended_lines, ended_then, lines_push, none_ended, whole_lines, with_feed, both, Speaker, ClientState, handed as all_handed, handed_for, item_of, state_after, state_from, AreTold, Asks, told_for, HasLine, HasPaused, HasSeen, HasServed, HasServedAll, TakesTurn, TellsNothing, TellsPart}
 use Rattle.front_lines.proofs.ReplyLemmas.{kept_push}
 
 -- what one more line adds

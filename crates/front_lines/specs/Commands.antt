@@ -1,5 +1,5 @@
 -- What a client's lines hand over.
-use Rattle.std.specs.Prelude.{ℕ, ◌+◌, Bool, true, false, ◌||◌, List, [], ◌∷◌, ◌++◌, length, codes, nat_lt, nat_le, if◌then◌else◌}
+use Rattle.std.specs.Prelude.{ℕ, ◌+◌, Bool, ◌||◌, List, [], ◌∷◌, ◌++◌, length, codes, nat_lt, nat_le, if◌then◌else◌}
 use Rattle.std.specs.Str.{bytes_eq}
 use Rattle.front_lines.specs.Prelude.{words_of, tagged_text, with_feed}
 use Rattle.front_lines.specs.Speakers.{with_marks, tag_in}

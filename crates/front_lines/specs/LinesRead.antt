@@ -1,5 +1,5 @@
 -- How far an input has been read, line by line.
-use Rattle.std.specs.Prelude.{ℕ, ◌≡◌, List, [], ◌∷◌, ◌++◌, Bool, true, false, Option, Result, Ok, Err, ⊤}
+use Rattle.std.specs.Prelude.{ℕ, ◌≡◌, List, ◌++◌, Bool, true, false, Option, Result, Ok, Err, ⊤}
 use Rattle.std.specs.Io.KnownBytes.{Consumes, IsAtEnd, prepend_known}
 use Rattle.std.specs.List.{flat_map, list_all}
 use Rattle.front_lines.specs.Prelude.{FailedDevice, View, LineFeed as Feed, ahead_of, IsKept, is_one_line, with_feed}

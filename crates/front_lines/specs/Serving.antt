@@ -1,5 +1,5 @@
 -- What a front has done, whenever it ends.
-use Rattle.std.specs.Prelude.{ℕ, ◌≡◌, List, [], ◌∷◌, ◌++◌, take, map, true, Option, IfSome, Result, Ok, Err, ⊤}
+use Rattle.std.specs.Prelude.{ℕ, ◌≡◌, List, [], ◌++◌, take, map, true, Option, IfSome, Result, Ok, Err, ⊤}
 use Rattle.std.specs.Io.KnownBytes.{Appends, Consumes, Keeps}
 use Rattle.std.specs.List.{flat_map, list_all}
 use Rattle.front_lines.specs.Prelude.{IsKept, is_one_line, kept_of, ended_lines, with_feed}

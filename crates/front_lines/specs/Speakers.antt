@@ -1,5 +1,5 @@
 -- Who speaks through a front, what is handed over for him, and what he is told.
-use Rattle.std.specs.Prelude.{ℕ, Bool, false, ◌&&◌, List, [], ◌∷◌, ◌++◌, codes, fold, if◌then◌else◌}
+use Rattle.std.specs.Prelude.{ℕ, Bool, false, ◌&&◌, List, [], ◌++◌, codes, fold, if◌then◌else◌}
 use Rattle.std.specs.Str.{bytes_eq}
 use Rattle.front_lines.specs.Prelude.{rest_of, tag_of, with_feed}
 use Rattle.front_lines.specs.declared.speaker.Speaker.{Speaker}

@@ -4,11 +4,12 @@ ghost use Rattle.front_lines.specs.Commands.{after_outside, after_within, form_o
 ghost use Rattle.front_lines.specs.Prelude.{with_feed};
 
 use crate::refusal::Refusal;
-use crate::speaker::{Speaker, push_line};
+use crate::speaker::Speaker;
 use line_text::append_words;
 use std::alloc::{AllocError, Global};
 use std::marker::Model;
 use std::mem;
+use tagged_lines::push_line;
 
 /// The most bytes of a line outside of netlists. With the longest tag and its LF a line has at most
 /// 4,096 bytes, which a pipe takes at once.

@@ -70,9 +70,7 @@ fn tagged_command(alloc: Global, speaker: &Speaker, command: &[u8]) -> Result<Ve
 {
     let text = speaker.with_marks(alloc, command)?;
     let mut lines = MemorySink::new(alloc);
-    let written = write_tagged(&mut lines, speaker.tag(), &text);
-    drop(text);
-    match written {
+    match write_tagged(&mut lines, speaker.tag(), &text) {
         Ok(()) => Ok(lines.into_bytes()),
         Err(_) => Err(AllocError),
     }
@@ -127,9 +125,7 @@ impl<Q: Requests + Drop, F: Dialogue + Drop> Service<Q, F> {
             (Q.contents self.new.requests) (handed_for self.old.speaker (HandOver command.now))) }
     {
         let lines = tagged_command(alloc, &self.speaker, command)?;
-        let handed = self.requests.hand_over(&lines);
-        drop(lines);
-        if handed.is_err() {
+        if self.requests.hand_over(&lines).is_err() {
             return Err(FrontStop::Requests);
         }
         take_reply(rt, alloc, &self.speaker, &mut self.feed, &mut self.replies)

@@ -1,10 +1,9 @@
 //! Who speaks through a front.
 ghost use Rattle.std.specs.Prelude.{◌≡◌, ◌++◌, IfOk, OnOk};
 ghost use Rattle.front_lines.specs.Speakers.{is_first, is_last, is_mark, mark_line, with_marks, told_after, own_line, tag_in};
-ghost use Rattle.front_lines.specs.Prelude.{with_feed};
 
 use std::alloc::{AllocError, Global};
-use tagged_lines::split_tag;
+use tagged_lines::{push_line, split_tag};
 
 /// The tag of the operator's lines.
 const OPERATOR: &[u8] = b"op";
@@ -98,15 +97,6 @@ impl Speaker {
             Speaker::Operator(_) => Ok(()),
         }
     }
-}
-
-/// Appends a line and its LF.
-pub(crate) fn push_line(text: &mut Vec<u8>, line: &[u8]) -> Result<(), AllocError>
-    ensures { OnOk result (text.new.items ≡ text.old.items ++ with_feed line.now) }
-{
-    text.extend_from_slice(line)?;
-    text.push(b'\n')?;
-    Ok(())
 }
 
 /// Appends what the operator says to mark a place: `echo`, the id, and the words and LF after it.

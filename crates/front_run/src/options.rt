@@ -89,9 +89,7 @@ pub struct FrontLine<'a> {
 /// is one.
 pub fn read_line<'a, S: AsStr>(alloc: Global, words: &'a [S]) -> Result<FrontLine<'a>, Error> {
     let given = read_words(alloc, &PROGRAM, words)?;
-    let line = line_of(alloc, &given);
-    drop(given);
-    match line {
+    match line_of(alloc, &given) {
         Ok(line) => Ok(line),
         Err(why) => Err(refusal(alloc, &PROGRAM, words, why)),
     }
@@ -131,8 +129,7 @@ fn tenant(alloc: Global, name: &str, id: &str) -> Result<Speaker, &'static str>
 fn operator(alloc: Global, id: &str) -> Result<Speaker, &'static str>
     ensures { IfOk result (λ speaker. is_tag (tag_in speaker) ≡ true) }
 {
-    let tag = tag_of(alloc, "op", id)?;
-    drop(tag);
+    drop(tag_of(alloc, "op", id)?);
     match Vec::from_slice(alloc, id.as_bytes()) {
         Ok(id) => Ok(Speaker::Operator(id)),
         Err(_) => Err(NO_MEMORY),
@@ -149,7 +146,6 @@ fn tag_of(alloc: Global, name: &str, id: &str) -> Result<Vec<u8>, &'static str>
     if owner_of(&tag).is_some() && is_tag(&tag) {
         Ok(tag)
     } else {
-        drop(tag);
         Err(BAD_ID)
     }
 }

@@ -28,9 +28,7 @@ where
     match read_line(rt.alloc(), words) {
         Ok(line) => {
             let mut client: Connection<S, W, FileLog<H::File>> = Connection::new(reader, writer);
-            let outcome = run_line(rt, line, &mut client);
-            drop(client);
-            Ok(outcome)
+            Ok(run_line(rt, line, &mut client))
         }
         Err(error) if error.kind() == ErrorKind::OutOfMemory => {
             Ok(Outcome::Stopped(FrontStop::NoMemory))
@@ -56,15 +54,12 @@ where
         ..
     } = line;
     let Ok(replies) = open_replies(rt, replies) else {
-        drop(speaker);
         return Outcome::NoReplies;
     };
     let Ok(requests) = open_requests(rt, requests) else {
-        drop((speaker, replies));
         return Outcome::NoRequests;
     };
     let Ok(feed) = LineFeed::new(rt.alloc()) else {
-        drop((speaker, replies, requests));
         return Outcome::Stopped(FrontStop::NoMemory);
     };
     let mut service = Service {
@@ -73,7 +68,5 @@ where
         replies: Replay::new(StdSource::new(replies)),
         feed,
     };
-    let outcome = serve(rt, &mut service, client);
-    drop(service);
-    outcome
+    serve(rt, &mut service, client)
 }

@@ -1,5 +1,5 @@
 -- Places by column and by their number in the column.
-use Rattle.grid.proofs.Prelude.{◌≡◌, ℕ, ◌+◌, ◌*◌, ◌/◌, ◌%◌, ◌<◌, Bool, true, false, List, [], ◌∷◌, length, take, get_or, slice_get, Some, sym, ap, ◌∙◌, arith, length-append, length-take-le, if◌then◌else◌, flat_map, range_with_len, get_or_append_left, get_or-append_right, get_or-flat_map, length-range_with_len, get_or-range_with_len, length-map-range_with_len, get_or-map-range_with_len, div-add-mod', div_below, slice_get-get_or, mod-lt, Strip, Kind, Place, column_len, column_of, place_at, place_in, places_of}
+use Rattle.grid.proofs.Prelude.{◌≡◌, ℕ, ◌+◌, ◌*◌, ◌/◌, ◌%◌, ◌<◌, List, [], ◌∷◌, length, take, get_or, slice_get, Some, sym, ap, ◌∙◌, arith, length-append, length-take-le, flat_map, range_with_len, get_or_append_left, get_or-append_right, get_or-flat_map, length-range_with_len, get_or-range_with_len, length-map-range_with_len, get_or-map-range_with_len, div-add-mod', div_below, slice_get-get_or, mod-lt, Strip, Kind, Place, column_len, column_of, place_at, place_in, places_of}
 
 -- pieces of equal length
 length_even : {X Y : Type 0} (f : X → List Y) (n : ℕ) → ((x : X) → length (f x) ≡ n) → (xs : List X) → length (flat_map f xs) ≡ length xs * n
@@ -18,10 +18,6 @@ column-len strip kind x = grind (arith, length-map-range_with_len, length-append
 pub length-places_of : (strip : Strip) (kind : Kind) → length (places_of strip kind) ≡ strip.width * column_len strip kind
 unfolding places_of
 length-places_of strip kind = grind (arith, column-len, length-range_with_len, length_even (column_of strip kind) (column_len strip kind) (column-len strip kind) (range_with_len 1 strip.width), column-len strip kind, length-range_with_len 1 strip.width)
-
--- one of two places, as the test decides
-by_end : (b : Bool) (low high found : Place) → (b ≡ true → found ≡ low) → (b ≡ false → found ≡ high) → found ≡ (if b then low else high)
-by_end b low high found if_low if_high = grind arith
 
 -- the place at an index of a column
 in_column : (strip : Strip) (kind : Kind) (x number : ℕ) (d : Place) → number < column_len strip kind → get_or (column_of strip kind x) number d ≡ place_in strip kind x number

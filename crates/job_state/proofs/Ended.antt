@@ -1,15 +1,8 @@
 -- What a job that is over has made.
-use Rattle.job_state.proofs.Prelude.{ℕ, ◌≡◌, ◌≤◌, ◌<◌, Bool, true, false, Result, Ok, Err, IfOk, if◌then◌else◌, sym, ap, ◌∙◌, arith, Circuit, BlifFault, PackedCircuit, packed_of, PlacingUnderWay, is_past_last, JobKind, Packing as PackingJob, Placing as PlacingJob, Sources, Work, Packed, Placed, HasFewSteps, IsNotOverBefore, circuit_in, end_value, is_last, is_whole, is_whole_value, job_value, pass_count, placing_at, value_of, work_of, kind_of}
+use Rattle.job_state.proofs.Prelude.{ℕ, ◌≡◌, ◌≤◌, ◌<◌, Bool, true, false, Result, Ok, Err, IfOk, if◌then◌else◌, sym, ap, ◌∙◌, arith, Circuit, BlifFault, PackedCircuit, packed_of, PlacingUnderWay, is_past_last, JobKind, Packing as PackingJob, Placing as PlacingJob, Sources, Work, Packed, Placed, HasFewSteps, IsNotOverBefore, circuit_in, end_value, is_last, is_whole, is_whole_value, job_value, pass_count, placing_at, value_of, work_of}
 use Rattle.job_state.specs.declared.sources.JobKind.TheVariants.{Routing as RoutingJob}
 use Rattle.job_state.specs.declared.work.Work.TheVariants.{Placing}
 use Rattle.job_state.proofs.StepCounts.{few_made, pass_count_is, step_count_is}
-
-value_kind : (sources : Sources) (circuit : Result Circuit BlifFault) (steps : ℕ) (work : Work) → value_of sources circuit steps ≡ Ok work → kind_of work ≡ sources.kind
-value_kind sources circuit steps work is = grind arith
-
--- a job makes work of its kind
-pub kind_made : (sources : Sources) (steps : ℕ) (work : Work) → job_value sources steps ≡ Ok work → kind_of work ≡ sources.kind
-kind_made sources steps work is = value_kind sources (circuit_in sources) steps work is
 
 -- what a job has made when it is over is its end value
 pub made_at_end : (sources : Sources) (steps : ℕ) (work : Work) → HasFewSteps sources → IsNotOverBefore sources steps → is_last sources steps ≡ true → job_value sources steps ≡ Ok work → end_value sources ≡ Ok work
@@ -17,13 +10,6 @@ made_at_end sources steps work few before at is = ap (λ count. job_value source
 
 packed_work : (kind : JobKind) (sources : Sources) (circuit : Circuit) (steps : ℕ) (packed : PackedCircuit) → kind ≡ PackingJob → work_of kind sources circuit steps ≡ Packed packed → packed ≡ packed_of circuit sources.arch
 packed_work kind sources circuit steps packed k is = grind arith
-
-pub packed_value : (sources : Sources) (circuit : Result Circuit BlifFault) (steps : ℕ) (packed : PackedCircuit) → sources.kind ≡ PackingJob → value_of sources circuit steps ≡ Ok (Packed packed) →
-    IfOk circuit (λ circuit. packed ≡ packed_of circuit sources.arch)
-packed_value sources circuit steps packed kind is = grind arith
-
-pub packed_made : (sources : Sources) (steps : ℕ) (packed : PackedCircuit) → sources.kind ≡ PackingJob → job_value sources steps ≡ Ok (Packed packed) → IfOk (circuit_in sources) (λ circuit. packed ≡ packed_of circuit sources.arch)
-packed_made sources steps packed kind is = packed_value sources (circuit_in sources) steps packed kind is
 
 -- placings
 whole_either : (placing : PlacingUnderWay) (finished : Bool) → is_whole (if finished then Placed placing else Placing placing) ≡ finished

@@ -1,6 +1,5 @@
 -- The pads of placed blocks are on the strip.
-use Rattle.job_state.proofs.Prelude.{ℕ, suc, zero, ◌≡◌, ◌+◌, ◌≤◌, inl, inr, Bool, true, ◌||◌, List, [], length, arith, ap, subst, le-leb, lt-ltb, eq-eqb, All, and_from, All-append, All-cons, All-contains, All-nil, Arch, Block, InputPad, OutputPad, Cluster, blocks_of, PackedCircuit, Strip, Place, Kind, Pad, places_of, IsPlaceIn, Resource, is_there, ArePlaced, block_at, place_of, pad_of, pads_of, pads_below}
-use Rattle.block_places.specs.Fits.{kind_of}
+use Rattle.job_state.proofs.Prelude.{ℕ, suc, zero, ◌≡◌, ◌+◌, ◌≤◌, inl, inr, Bool, true, ◌||◌, List, [], length, arith, ap, subst, le-leb, lt-ltb, eq-eqb, All, and_from, All-append, All-cons, All-contains, All-nil, Arch, Block, InputPad, OutputPad, Cluster, blocks_of, PackedCircuit, Strip, Place, Kind, Pad, places_of, IsPlaceIn, Resource, is_there, ArePlaced, block_at, place_of, pad_of, pads_of, pads_below, kind_of}
 use Rattle.rr_graph.specs.declared.resource.ResourceKind.TheVariants.{Pad as PadResource}
 use Rattle.job_state.proofs.Gathered.{gathered_to}
 

@@ -21,6 +21,7 @@ pub use Rattle.std.specs.declared.cmp.Ordering.{Ordering}
 pub use Rattle.std.specs.declared.cmp.Ordering.TheVariants.{Equal, Less}
 pub use Rattle.arch_file.specs.Arch.{IsArch}
 pub use Rattle.blif.specs.LawfulCircuits.{IsCircuit}
+pub use Rattle.block_places.specs.Fits.{kind_of}
 pub use Rattle.cluster.proofs.Members.{few_bles}
 pub use Rattle.cluster.specs.Bles.{LogicElement, bles_of}
 pub use Rattle.cluster.specs.Clusters.{with_cluster}
@@ -40,7 +41,7 @@ pub use Rattle.job_state.specs.RoutedCircuits.{AreThere, IsInOrder, ListsAll, Ro
 pub use Rattle.job_state.specs.RoutedSet.{held_at_end}
 unfoldable pub use Rattle.job_state.specs.RoutedSet.{resources_of}
 pub use Rattle.job_state.specs.Stages.{state_at}
-pub use Rattle.job_state.specs.Steps.{IsLeft, graph_for, kind_of, next_work}
+pub use Rattle.job_state.specs.Steps.{IsLeft, graph_for, next_work}
 pub use Rattle.job_state.specs.UnderWay.{GoesOn, RoutingUnderWay, begun_state}
 pub use Rattle.job_state.specs.Unshared.{before_last, packing_made}
 pub use Rattle.job_state.specs.declared.sources.JobKind.{JobKind}

@@ -1,5 +1,6 @@
 -- What a job has after a number of steps.
-use Rattle.job_state.proofs.Prelude.{ℕ, ◌≡◌, ◌+◌, true, false, Ok, arith, Sources, Work, StandsFor, is_last, job_value, IsLeft, kind_of, next_work}
+use Rattle.job_state.proofs.Prelude.{ℕ, ◌≡◌, ◌+◌, true, false, Ok, arith, Sources, Work, StandsFor, is_last, job_value, IsLeft, next_work}
+use Rattle.job_state.specs.Steps.{kind_of}
 
 -- a job's value represents itself
 pub as_stands : (sources : Sources) (steps : ℕ) (work : Work) → job_value sources steps ≡ Ok work → StandsFor sources steps work

@@ -108,13 +108,8 @@ impl Parked {
         ensures job { IfOk result (λ job. job ≡ first_step id generation sources) }
         ensures going { IfOk result (λ job. is_over job ≡ false) }
     {
-        match routing_of(alloc, &sources, placing) {
-            Ok(routing) => Parked::begin(alloc, id, generation, sources, Work::Routing(routing)),
-            Err(error) => {
-                drop(sources);
-                Err(error)
-            }
-        }
+        let routing = routing_of(alloc, &sources, placing)?;
+        Parked::begin(alloc, id, generation, sources, Work::Routing(routing))
     }
 
     /// A job before its first step.
@@ -137,17 +132,12 @@ impl Parked {
             number: 1,
             sources,
         };
-        match Box::new(alloc, work) {
-            Ok(work) => Ok(Parked {
-                step,
-                work,
-                made: false,
-            }),
-            Err(error) => {
-                drop(step);
-                Err(error.into())
-            }
-        }
+        let work = Box::new(alloc, work)?;
+        Ok(Parked {
+            step,
+            work,
+            made: false,
+        })
     }
 
     /// Takes the job out, to make its next step. Takes no memory.

@@ -62,14 +62,10 @@ impl JsonPen {
         ensures { IfOk result (λ text.
             MatchResult written (λ _. text.items ≡ tokens_text self) (λ _. ⊥)) }
     {
-        let JsonPen { out } = self;
-        match written {
-            Ok(()) => with_line_feed(out.into_inner()),
-            Err(error) => {
-                drop(out);
-                Err(error)
-            }
-        }
+        written?;
+        let mut text = self.out.into_inner();
+        text.push(b'\n')?;
+        Ok(text)
     }
 
     /// Begins an object.
@@ -158,20 +154,6 @@ impl JsonPen {
         self.open_object()?;
         self.members(members)?;
         self.close_object()
-    }
-}
-
-/// The text with a line feed at its end.
-fn with_line_feed(text: Vec<u8>) -> Result<Vec<u8>, AllocError>
-    ensures { IfOk result (λ ended. ended.items ≡ text.items ++ 10 ∷ []) }
-{
-    let mut text = text;
-    match text.push(b'\n') {
-        Ok(()) => Ok(text),
-        Err(_) => {
-            drop(text);
-            Err(AllocError)
-        }
     }
 }
 

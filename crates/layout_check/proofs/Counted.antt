@@ -1,5 +1,5 @@
 -- How many nets use each node.
-use Rattle.layout_check.proofs.Prelude.{◌≡◌, ℕ, ◌+◌, ◌-◌, ◌<◌, ◌≤◌, Bool, true, false, List, [], ◌∷◌, ◌++◌, cond, take, get_or, length, replicate, slice_get, Some, sym, ap, refl, ◌∙◌, subst, arith, All, Contains, count_by, list_any, false≢true, get_or-replicate, take_all, take_more, All-contains, All-more, count_by_more_no, count_by_more_yes, from_any, in_first, in_later, in_none, count-no, Circuit, IsLaid, sinks_of, LaidNet, Layout, IsRouted, path_nodes, is_same_node, source_at, same_node, Node, Source, capacity_of, is_node, Basis, IsRoutingGraph, graph_of, AreUsedBy, is_on, AreCarried, AreUses, uses_of}
+use Rattle.layout_check.proofs.Prelude.{cases_lt, get_or_past, length-take-le, count_by-le-length, ◌⊎◌, inl, inr, ◌^◌, ◌≡◌, ℕ, ◌+◌, ◌-◌, ◌<◌, ◌≤◌, Bool, true, false, List, [], ◌∷◌, ◌++◌, cond, take, get_or, length, replicate, slice_get, Some, sym, ap, refl, ◌∙◌, subst, arith, All, Contains, count_by, list_any, false≢true, get_or-replicate, take_all, take_more, All-contains, All-more, count_by_more_no, count_by_more_yes, from_any, in_first, in_later, in_none, count-no, Circuit, IsLaid, sinks_of, LaidNet, Layout, IsRouted, path_nodes, is_same_node, source_at, same_node, Node, Source, capacity_of, is_node, Basis, IsRoutingGraph, graph_of, AreUsedBy, is_on, AreCarried, AreUses, uses_of}
 use Rattle.layout_check.proofs.Refute.{route_inside}
 
 none_counted : {X : Type 0} (test : X → Bool) (xs : List X) → ((x : X) → Contains xs x → test x ≡ true → ⊥) → count_by test xs ≡ 0
@@ -33,6 +33,19 @@ checked_more circuit basis layout n old new laid so small item long is used = re
     by node false off =
         let more = count_by_more_no (λ (between : LaidNet). is_on between.paths node) layout.nets n laid small (ap (λ (l : LaidNet). is_on l.paths node) item ∙ off) in
         omega (arith, more)
+
+-- no use is so many that one more has no room
+pub few_uses : (circuit : Circuit) (basis : Basis) (layout : Layout) (n : ℕ) (uses : List ℕ) → n + 1 < 2 ^ 64 → n < length layout.nets → AreChecked circuit basis layout n uses → (k : ℕ) → get_or uses k 0 + 1 < 2 ^ 64
+few_uses circuit basis layout n uses few small so k = by (cases_lt k (length uses))
+  where
+    by : (k < length uses) ⊎ (length uses ≤ k) → get_or uses k 0 + 1 < 2 ^ 64
+    by (inl within) =
+        let node = (graph_of basis).node k in
+        let is = so.counted node k (let long = so.long in omega (arith, within, long)) refl in
+        let most = count_by-le-length (λ (between : LaidNet). is_on between.paths node) (take n layout.nets) in
+        let short = length-take-le n layout.nets (omega arith) in
+        omega (arith, is, most, short)
+    by (inr past) = let none = get_or_past uses k 0 past in omega (arith, none)
 
 pub checked_all : (circuit : Circuit) (basis : Basis) (layout : Layout) (n : ℕ) (uses : List ℕ) → length layout.nets ≤ n → AreChecked circuit basis layout n uses →
     All (IsLaid circuit basis.arch basis.strip layout) layout.nets × AreUses basis layout.nets uses

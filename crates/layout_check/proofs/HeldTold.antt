@@ -3,23 +3,15 @@ use Rattle.layout_check.proofs.Prelude.{◌≡◌, ℕ, ◌<◌, List, [], ◌++
 use Rattle.layout_check.specs.declared.held.HeldFault.TheVariants.{Ble, TableTwice, LatchTwice}
 use Rattle.layout_check.proofs.BlePlaces.{bles_in, numbers_differ, place_within, traced_at, traced_in}
 
--- the elements are the traced BLEs of the layout
-pub traced_told : (basis : Basis) (layout : Layout) (arch : Arch) (blocks : List LaidBlock) (old elements slice : List LogicElement) → old ≡ [] → elements ≡ old ++ flat_map (traced_in arch) blocks → arch ≡ basis.arch → blocks ≡ layout.blocks →
-    slice ≡ elements → slice ≡ traced_bles basis.arch layout
-traced_told basis layout arch blocks old elements slice none are at same copy = grind arith
-
-module _ (circuit : Circuit) (basis : Basis) (layout : Layout) (blocks : List LaidBlock) (elements : List LogicElement) (same : blocks ≡ layout.blocks) (are : elements ≡ traced_bles basis.arch layout) where
-  pub bles_told : AreBlesOf circuit elements → AreBlesOf circuit (traced_bles basis.arch layout)
-  bles_told is = subst (AreBlesOf circuit) are is
-
-  in_traced : (place : ℕ) (element : LogicElement) → slice_get elements place ≡ Some element → slice_get (flat_map (traced_in basis.arch) layout.blocks) place ≡ Some element
-  in_traced place element at = sym (ap (λ es. slice_get es place) are) ∙ at
+module _ (circuit : Circuit) (basis : Basis) (layout : Layout) (blocks : List LaidBlock) (same : blocks ≡ layout.blocks) where
+  abbrev elements : List LogicElement
+  elements = traced_bles basis.arch layout
 
   place_told : (place : ℕ) (element : LogicElement) → slice_get elements place ≡ Some element → place < length (bles_in blocks)
-  place_told place element at = subst (λ bs. place < length (bles_in bs)) (sym same) (place_within basis.arch layout.blocks place element (in_traced place element at))
+  place_told place element at = subst (λ bs. place < length (bles_in bs)) (sym same) (place_within basis.arch layout.blocks place element at)
 
   at_told : (place : ℕ) (number : BleNumber) (element : LogicElement) → IsNumberOf blocks place number → slice_get elements place ≡ Some element → IsBleAt basis.arch layout.blocks number element
-  at_told place number element so at = traced_at basis.arch layout.blocks place number element (subst (λ bs. IsNumberOf bs place number) same so) (in_traced place element at)
+  at_told place number element so at = traced_at basis.arch layout.blocks place number element (subst (λ bs. IsNumberOf bs place number) same so) at
 
   pub ble_small : (place : ℕ) (fault : HoldFault) → IsHeldFault circuit elements (Ble place fault) → place < length (bles_in blocks)
   ble_small place fault (element, at, said) = place_told place element at

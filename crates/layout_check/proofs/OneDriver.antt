@@ -123,9 +123,6 @@ module _ (circuit : Circuit) (lawful : IsCircuit circuit) (arch : Arch) (strip :
   apart : AreApart (by_tables ++ by_latches)
   apart = pairs_back (λ net other. net ≢ other) circuit.inputs (by_tables ++ by_latches) lawful.driven_once
 
-  abbrev bles_of_block : LaidBlock → List LogicElement
-  bles_of_block laid = map (traced_ble arch laid) laid.bles
-
   kind : (i : ℕ) (laid : LaidBlock) → slice_get layout.blocks i ≡ Some laid → (ble : HasBle arch net laid) → IsTableOf circuit net ble.element ⊎ IsLatchOf circuit net ble.element
   kind i laid at ble =
       held_by circuit net ble.element ble.out

@@ -1,23 +1,23 @@
 -- The names that this crate's proofs use, but for its own lemmas.
-pub use Rattle.std.proofs.Common.{Bool, List, None, Option, Some, [], ap, append_assoc, arith, cond, drop, eq-eqb, eqb, false, filter, get_or, inl, inr, is_some, length, length-append, map, min, not, refl, replicate, rules, set, slice_get, subst, suc, sym, take, true, zero, ℕ, ◌&&◌, ◌++◌, ◌+◌, ◌-◌, ◌<◌, ◌==◌, ◌||◌, ◌∙◌, ◌∷◌, ◌≡◌, ◌≢◌, ◌≤◌, ◌⊎◌}
+pub use Rattle.std.proofs.Common.{Bool, List, None, Option, Some, [], ap, append_assoc, arith, cond, drop, eq-eqb, eqb, false, filter, get_or, inl, inr, is_some, length, length-append, map, min, not, refl, replicate, rules, set, slice_get, subst, suc, sym, take, true, zero, ℕ, ◌&&◌, ◌++◌, ◌+◌, ◌-◌, ◌<◌, ◌==◌, ◌^◌, ◌||◌, ◌∙◌, ◌∷◌, ◌≡◌, ◌≢◌, ◌≤◌, ◌⊎◌}
 pub use Rattle.std.proofs.Math.Bool.{or_assoc}
 pub use Rattle.std.proofs.Math.Seq.{get_or-append_seam}
 pub use Rattle.std.proofs.lemmas.Bool.{and_parts, cases_eq, cases_lt, eqb-true, false_from_ne_true, false≢true}
 pub use Rattle.std.proofs.lemmas.Bool.Decides.{Decides-eqb, eqb_tells, nat_tests}
 pub use Rattle.std.proofs.lemmas.Cmp.{nat_eq_equiv}
 pub use Rattle.std.proofs.lemmas.Grind.{flat_map-append}
-pub use Rattle.std.proofs.lemmas.List.{append-nil, drop_at, get_or-map, get_or-replicate, get_or-set_other, get_or-set_same, get_or_append_left, get_or_default, get_or_past, length-map, length-replicate, length-set, map-append, map-set, map_push, replicate_more, take-append-drop, take_all, take_more}
+pub use Rattle.std.proofs.lemmas.List.{append-nil, drop_at, get_or-map, get_or-replicate, get_or-set_other, get_or-set_same, get_or_append_left, get_or_default, get_or_past, length-map, length-replicate, length-set, length-take-le, map-append, map-set, map_push, replicate_more, take-append-drop, take_all, take_more}
 pub use Rattle.std.proofs.lemmas.List.Concat.{flat_map-cons, get_or-flat_map}
 pub use Rattle.std.proofs.lemmas.List.Elements.{All-append, All-contains, All-get_or, All-head, All-map, All-more, All-tail, All-take, All-weaker, Contains-get_or, filter_more}
 pub use Rattle.std.proofs.lemmas.List.Folds.{list_any_more}
 pub use Rattle.std.proofs.lemmas.List.FromFn.{get_or-enumerate_from, get_or-range_with_len, length-enumerate_from, length-range_with_len}
-pub use Rattle.std.proofs.lemmas.List.Sums.{count_by_more_no, count_by_more_yes, sum_by-set}
+pub use Rattle.std.proofs.lemmas.List.Sums.{count_by-le-length, count_by_more_no, count_by_more_yes, sum_by-set}
 pub use Rattle.std.proofs.lemmas.Map.Made.{AllPairs-from_IsDistinct, IsDistinct-from_count, distinct_count-from_IsDistinct, length-from_keys}
 pub use Rattle.std.proofs.lemmas.Option.{get_or_from_slice_get, same_Some, slice_get-get_or}
 pub use Rattle.std.specs.List.{AllByRecursion, enumerate_from, flat_map, list_all, list_any, range_with_len}
 unfoldable pub use Rattle.std.specs.List.{IsDistinct}
 pub use Rattle.std.specs.Option.{ForSome, option_map_or, option_to_list}
-pub use Rattle.std.specs.Prelude.{All, Contains, MatchBool, MatchOption, count_by, option_map}
+pub use Rattle.std.specs.Prelude.{All, Contains, IfOk, MatchBool, MatchOption, count_by, option_map}
 pub use Rattle.std.specs.Set.{distinct_count, is_member}
 pub use Rattle.arch_file.specs.declared.arch.Pin.{Pin}
 pub use Rattle.arch_file.specs.declared.arch.PinClass.{PinClass}

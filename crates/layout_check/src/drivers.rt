@@ -1,11 +1,9 @@
 //! The blocks that drive a net, and those at which it is wanted.
-ghost use Rattle.std.specs.Prelude.{◌≡◌, ◌++◌, ◌<◌, All, Contains, OnOk, MatchOption, Some, length, option_map, slice_get};
+ghost use Rattle.std.specs.Prelude.{◌≡◌, ◌<◌, All, Contains, MatchOption, Some, length, option_map, slice_get};
 ghost use Rattle.layout_check.specs.Prelude.{LaidBlock as BlockValue, sink_at, source_at};
-ghost use Rattle.layout_check.specs.NetBlocks.{sinks_at};
 
 use layouts::LaidBlock;
 use rr_graph::Node;
-use std::alloc::AllocError;
 
 /// The node at which the block with this number drives a net.
 pub(crate) fn source_of(blocks: &[LaidBlock], driver: usize) -> Node
@@ -41,27 +39,11 @@ pub(crate) fn other_driver(drivers: &[usize], driver: usize) -> Option<usize>
 }
 
 /// The node at which the block with this number reads nets, if there is such a block.
-fn sink_of(blocks: &[LaidBlock], number: usize) -> Option<Node>
+pub(crate) fn sink_of(blocks: &[LaidBlock], number: usize) -> Option<Node>
     ensures { result ≡ option_map (λ laid. sink_at laid.block laid.place) (slice_get blocks.now number) }
 {
     match blocks.get(number) {
         Some(block) => Some(block.sink()),
         None => None,
     }
-}
-
-/// Adds the sinks of the blocks with these numbers, in this order.
-pub(crate) fn add_sinks(
-    blocks: &[LaidBlock],
-    readers: &[usize],
-    sinks: &mut Vec<Node>,
-) -> Result<(), AllocError>
-    ensures { OnOk result (sinks.new.items ≡ sinks.old.items ++ sinks_at blocks.now readers.now) }
-{
-    for reader in readers {
-        if let Some(sink) = sink_of(blocks, *reader) {
-            sinks.push(sink)?;
-        }
-    }
-    Ok(())
 }

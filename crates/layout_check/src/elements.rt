@@ -8,7 +8,6 @@ ghost use Rattle.layout_check.specs.Helds.{IsNumberOf};
 use crate::fault::BleNumber;
 use crate::inside::{input_net, on_pin};
 use arch_file::{Arch, PinClass};
-use implements::Feed;
 use layouts::{LaidBle, LaidBlock};
 use std::alloc::{AllocError, Global};
 use std::marker::Model;
@@ -53,24 +52,6 @@ impl Element {
     }
 }
 
-/// Adds the nets that come to the inputs.
-fn add_inputs(
-    arch: &Arch,
-    block: &LaidBlock,
-    feeds: &[Feed],
-    inputs: &mut Vec<u32>,
-) -> Result<(), AllocError>
-    ensures { OnOk result (inputs.new.items ≡ inputs.old.items
-        ++ flat_map (λ feed. option_to_list (input_net arch.now block.now feed)) feeds.now) }
-{
-    for feed in feeds {
-        if let Some(net) = input_net(arch, block, *feed) {
-            inputs.push(net)?;
-        }
-    }
-    Ok(())
-}
-
 /// The net that comes to the clock pin, if the BLE has one.
 fn clock_net(arch: &Arch, block: &LaidBlock, clock: Option<usize>) -> Option<u32>
     ensures { result ≡ option_and_then (on_pin arch.now block.now Clock) clock }
@@ -91,7 +72,12 @@ fn trace(
     ensures { IfOk result (λ element. element ≡ traced_ble arch.now block.now ble.now) }
 {
     let mut inputs = Vec::new(alloc);
-    add_inputs(arch, block, ble.inputs(), &mut inputs)?;
+    let feeds = ble.inputs();
+    for feed in feeds {
+        if let Some(net) = input_net(arch, block, *feed) {
+            inputs.push(net)?;
+        }
+    }
     Ok(Element {
         inputs,
         output: ble.name(),
@@ -116,20 +102,20 @@ fn add_bles(
     Ok(())
 }
 
-/// Adds the BLEs of all blocks, traced.
+/// The BLEs of all blocks, traced.
 pub(crate) fn trace_bles(
     alloc: Global,
     arch: &Arch,
     blocks: &[LaidBlock],
-    elements: &mut Vec<Element>,
-) -> Result<(), AllocError>
-    ensures { OnOk result (elements.new.items ≡ elements.old.items
-        ++ flat_map (λ block. map (traced_ble arch.now block) block.bles) blocks.now) }
+) -> Result<Vec<Element>, AllocError>
+    ensures { IfOk result (λ elements. elements.items
+        ≡ flat_map (λ block. map (traced_ble arch.now block) block.bles) blocks.now) }
 {
+    let mut elements = Vec::new(alloc);
     for block in blocks {
-        add_bles(alloc, arch, block, elements)?;
+        add_bles(alloc, arch, block, &mut elements)?;
     }
-    Ok(())
+    Ok(elements)
 }
 
 /// Which BLE is the one at this place among the BLEs of all blocks.

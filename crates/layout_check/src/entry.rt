@@ -6,7 +6,7 @@ ghost use Rattle.layout_check.specs.NetBlocks.{AreBlocksOf, sinks_at};
 ghost use Rattle.layout_check.specs.RouteFaults.{IsPathFault};
 ghost use Rattle.layout_check.specs.TreeTests.{HasRoom};
 
-use crate::drivers::{add_sinks, first_driver, other_driver, source_of};
+use crate::drivers::{first_driver, other_driver, sink_of, source_of};
 use crate::fault::{EntryFault, RouteFault};
 use crate::inside::is_net;
 use crate::net_blocks::NetBlocks;
@@ -30,18 +30,6 @@ pub(crate) fn is_global(circuit: &Circuit, net: u32) -> bool
     false
 }
 
-/// Adds the numbers of the blocks at which a net is wanted, except for its driver.
-fn add_readers(readers: &[usize], driver: usize, listed: &mut Vec<usize>) -> Result<(), AllocError>
-    ensures { OnOk result (listed.new.items ≡ listed.old.items ++ filter (λ reader. not (reader == driver)) readers.now) }
-{
-    for reader in readers {
-        if *reader != driver {
-            listed.push(*reader)?;
-        }
-    }
-    Ok(())
-}
-
 /// Whether the numbers are equal.
 pub(crate) fn same_numbers(numbers: &[u32], others: &[usize]) -> bool
     ensures { MatchBool result (numbers.now ≡ others.now) (numbers.now ≡ others.now → ⊥) }
@@ -57,24 +45,6 @@ pub(crate) fn same_numbers(numbers: &[u32], others: &[usize]) -> bool
     true
 }
 
-/// Adds the numbers of the blocks that are listed with a net.
-fn add_listed(
-    global: bool,
-    readers: &[usize],
-    driver: usize,
-    listed: &mut Vec<usize>,
-) -> Result<(), AllocError>
-    requires { listed.old.items ≡ [] }
-    ensures { OnOk result (listed.new.items
-        ≡ (if global then driver ∷ filter (λ reader. not (reader == driver)) readers.now else [])) }
-{
-    if global {
-        listed.push(driver)?;
-        add_readers(readers, driver, listed)?;
-    }
-    Ok(())
-}
-
 /// Whether these are the blocks that are listed with a net.
 fn is_listed(
     alloc: Global,
@@ -87,8 +57,16 @@ fn is_listed(
         (numbers.now ≡ (if global then driver ∷ filter (λ reader. not (reader == driver)) readers.now else []))
         (numbers.now ≡ (if global then driver ∷ filter (λ reader. not (reader == driver)) readers.now else []) → ⊥)) }
 {
+    if !global {
+        return Ok(same_numbers(numbers, &[]));
+    }
     let mut listed = Vec::new(alloc);
-    add_listed(global, readers, driver, &mut listed)?;
+    listed.push(driver)?;
+    for reader in readers {
+        if *reader != driver {
+            listed.push(*reader)?;
+        }
+    }
     Ok(same_numbers(numbers, listed.as_slice()))
 }
 
@@ -102,8 +80,13 @@ fn sinks_of(
     ensures { IfOk result (λ sinks. sinks.items ≡ (if global then [] else sinks_at blocks.now readers.now)) }
 {
     let mut sinks = Vec::new(alloc);
-    if !global {
-        add_sinks(blocks, readers, &mut sinks)?;
+    if global {
+        return Ok(sinks);
+    }
+    for reader in readers {
+        if let Some(sink) = sink_of(blocks, *reader) {
+            sinks.push(sink)?;
+        }
     }
     Ok(sinks)
 }
@@ -181,17 +164,8 @@ pub(crate) fn check_entry(
     }
     let sinks = sinks_of(alloc, global, blocks, readers)?;
     let source = source_of(blocks, driver);
-    let found = check_paths(
-        alloc,
-        graph,
-        work,
-        source,
-        sinks.as_slice(),
-        laid.paths(),
-        uses,
-    );
-    drop(sinks);
-    match found? {
+    let ends = sinks.as_slice();
+    match check_paths(alloc, graph, work, source, ends, laid.paths(), uses)? {
         Some(fault) => Ok(Some(EntryFault::Paths(driver, fault))),
         None => Ok(None),
     }

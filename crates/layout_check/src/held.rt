@@ -1,8 +1,7 @@
 //! Whether each table and each latch of the circuit is in exactly one BLE.
-ghost use Rattle.std.specs.Prelude.{◌≡◌, [], IfOk, List, MatchOption, Some, slice_get};
-ghost use Rattle.layout_check.specs.Prelude.{LogicElement, AreBlesOf, traced_bles};
-ghost use Rattle.layout_check.specs.Helds.{AreHeld, IsHeldFault, of_latches, of_tables};
-ghost use Rattle.layout_check.specs.HoldFaults.{IsHoldFault};
+ghost use Rattle.std.specs.Prelude.{◌≡◌, IfOk, MatchOption};
+ghost use Rattle.layout_check.specs.Prelude.{AreBlesOf, traced_bles};
+ghost use Rattle.layout_check.specs.Helds.{IsHeldFault, of_latches, of_tables};
 ghost use Rattle.layout_check.specs.NetOwners.{AreNets};
 ghost use Rattle.layout_check.specs.Wrongs.{IsWrong};
 
@@ -28,40 +27,6 @@ pub(crate) enum HeldFault {
     NoLatch(usize),
 }
 
-/// The numbers of the tables and latches that BLEs hold, by BLE.
-#[derive(Drop)]
-pub(crate) struct Holdings {
-    pub(crate) tables: Vec<Option<usize>>,
-    pub(crate) latches: Vec<Option<usize>>,
-}
-
-/// The first BLE that holds nothing, and why. Adds what the BLEs hold to the empty lists.
-fn add_held(
-    circuit: &Circuit,
-    owners: &[Owner],
-    counts: &[u8],
-    elements: &[Element],
-    held: &mut Holdings,
-) -> Result<Option<(usize, HoldFault)>, AllocError>
-    requires nets { AreNets circuit.now owners.now counts.now }
-    requires no_tables { held.old.tables.items ≡ [] }
-    requires no_latches { held.old.latches.items ≡ [] }
-    ensures { IfOk result (λ found. MatchOption found
-        (AreHeld circuit.now elements.now held.new.tables.items held.new.latches.items)
-        (λ found. (element : LogicElement) × (slice_get elements.now found.0 ≡ Some element) × IsHoldFault circuit.now element found.1)) }
-{
-    for (place, element) in elements.iter().enumerate() {
-        match find_held(circuit, owners, counts, element) {
-            Err(fault) => return Ok(Some((place, fault))),
-            Ok(found) => {
-                held.tables.push(found.table)?;
-                held.latches.push(found.latch)?;
-            }
-        }
-    }
-    Ok(None)
-}
-
 /// The fault of a table that isn't held just once.
 fn of_tables(fault: OnceFault) -> HeldFault
     ensures { result ≡ of_tables fault }
@@ -82,52 +47,7 @@ fn of_latches(fault: OnceFault) -> HeldFault
     }
 }
 
-/// The first table or latch that isn't held just once.
-fn check_counts(
-    alloc: Global,
-    circuit: &Circuit,
-    elements: &[Element],
-    held: &Holdings,
-) -> Result<Option<HeldFault>, AllocError>
-    requires { AreHeld circuit.now elements.now held.now.tables.items held.now.latches.items }
-    ensures { IfOk result (λ fault. MatchOption fault (AreBlesOf circuit.now elements.now)
-        (IsHeldFault circuit.now elements.now)) }
-{
-    if let Some(fault) = check_once(alloc, held.tables.as_slice(), circuit.tables.len())? {
-        return Ok(Some(of_tables(fault)));
-    }
-    match check_once(
-        alloc,
-        held.latches.as_slice(),
-        circuit.latches.as_slice().len(),
-    )? {
-        Some(fault) => Ok(Some(of_latches(fault))),
-        None => Ok(None),
-    }
-}
-
 /// What is wrong with what the BLEs hold, by what drives the nets and how often they are read.
-fn check_holdings(
-    alloc: Global,
-    circuit: &Circuit,
-    owners: &[Owner],
-    counts: &[u8],
-    elements: &[Element],
-    held: &mut Holdings,
-) -> Result<Option<HeldFault>, AllocError>
-    requires nets { AreNets circuit.now owners.now counts.now }
-    requires no_tables { held.old.tables.items ≡ [] }
-    requires no_latches { held.old.latches.items ≡ [] }
-    ensures { IfOk result (λ fault. MatchOption fault (AreBlesOf circuit.now elements.now)
-        (IsHeldFault circuit.now elements.now)) }
-{
-    if let Some(found) = add_held(circuit, owners, counts, elements, held)? {
-        return Ok(Some(HeldFault::Ble(found.0, found.1)));
-    }
-    check_counts(alloc, circuit, elements, held)
-}
-
-/// The same, with room for what they hold.
 fn check_elements(
     alloc: Global,
     circuit: &Circuit,
@@ -139,24 +59,38 @@ fn check_elements(
     ensures { IfOk result (λ fault. MatchOption fault (AreBlesOf circuit.now elements.now)
         (IsHeldFault circuit.now elements.now)) }
 {
-    let mut held = Holdings {
-        tables: Vec::new(alloc),
-        latches: Vec::new(alloc),
-    };
-    let found = check_holdings(alloc, circuit, owners, counts, elements, &mut held);
-    drop(held);
-    found
+    let mut tables = Vec::new(alloc);
+    let mut latches = Vec::new(alloc);
+    for (place, element) in elements.iter().enumerate() {
+        match find_held(circuit, owners, counts, element) {
+            Err(fault) => return Ok(Some(HeldFault::Ble(place, fault))),
+            Ok(found) => {
+                tables.push(found.table)?;
+                latches.push(found.latch)?;
+            }
+        }
+    }
+    if let Some(fault) = check_once(alloc, tables.as_slice(), circuit.tables.len())? {
+        return Ok(Some(of_tables(fault)));
+    }
+    match check_once(alloc, latches.as_slice(), circuit.latches.as_slice().len())? {
+        Some(fault) => Ok(Some(of_latches(fault))),
+        None => Ok(None),
+    }
 }
 
 /// What is wrong with what the traced BLEs hold.
 fn check_traced(
     alloc: Global,
     circuit: &Circuit,
-    elements: &[Element],
+    graph: &Fabric,
+    layout: &Layout,
 ) -> Result<Option<HeldFault>, AllocError>
-    ensures { IfOk result (λ fault. MatchOption fault (AreBlesOf circuit.now elements.now)
-        (IsHeldFault circuit.now elements.now)) }
+    ensures { IfOk result (λ fault. MatchOption fault
+        (AreBlesOf circuit.now (traced_bles graph.now.arch layout.now))
+        (IsHeldFault circuit.now (traced_bles graph.now.arch layout.now))) }
 {
+    let elements = trace_bles(alloc, graph.arch(), layout.blocks())?;
     let mut owners = Vec::from_elem(alloc, Owner::Nothing, circuit.nets.len())?;
     if let Some(net) = find_owners(circuit, &mut owners) {
         return Ok(Some(HeldFault::Unlawful(net)));
@@ -168,28 +102,27 @@ fn check_traced(
         circuit,
         owners.as_slice(),
         counts.as_slice(),
-        elements,
+        elements.as_slice(),
     )
 }
 
-/// Traces the BLEs into an empty list, and finds what is wrong with them.
-fn trace_and_check(
+/// Finds what is wrong with what the BLEs of a layout hold: whether each is a table, a latch, or a
+/// table with the latch that alone reads it, and each table and each latch of the circuit is in
+/// exactly one.
+pub(crate) fn check_held(
     alloc: Global,
     circuit: &Circuit,
     graph: &Fabric,
     layout: &Layout,
-    elements: &mut Vec<Element>,
 ) -> Result<Option<Wrong>, AllocError>
-    requires { elements.old.items ≡ [] }
     ensures { IfOk result (λ found. MatchOption found
         (AreBlesOf circuit.now (traced_bles graph.now.arch layout.now))
         (IsWrong circuit.now graph.now layout.now)) }
 {
-    let blocks = layout.blocks();
-    trace_bles(alloc, graph.arch(), blocks, elements)?;
-    let Some(fault) = check_traced(alloc, circuit, elements.as_slice())? else {
+    let Some(fault) = check_traced(alloc, circuit, graph, layout)? else {
         return Ok(None);
     };
+    let blocks = layout.blocks();
     match fault {
         HeldFault::Unlawful(net) => Ok(Some(Wrong::Unlawful(net))),
         HeldFault::Ble(place, fault) => Ok(Some(Wrong::Ble(ble_number(blocks, place), fault))),
@@ -206,23 +139,4 @@ fn trace_and_check(
         }
         HeldFault::NoLatch(latch) => Ok(Some(Wrong::NoLatch(latch))),
     }
-}
-
-/// Finds what is wrong with what the BLEs of a layout hold: whether each is a table, a latch, or a
-/// table with the latch that alone reads it, and each table and each latch of the circuit is in
-/// exactly one.
-pub(crate) fn check_held(
-    alloc: Global,
-    circuit: &Circuit,
-    graph: &Fabric,
-    layout: &Layout,
-) -> Result<Option<Wrong>, AllocError>
-    ensures { IfOk result (λ found. MatchOption found
-        (AreBlesOf circuit.now (traced_bles graph.now.arch layout.now))
-        (IsWrong circuit.now graph.now layout.now)) }
-{
-    let mut elements = Vec::new(alloc);
-    let found = trace_and_check(alloc, circuit, graph, layout, &mut elements);
-    drop(elements);
-    found
 }

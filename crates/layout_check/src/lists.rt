@@ -19,30 +19,16 @@ impl Model for Lists {
     ghost view = { λ l. map (λ list. list.items) l.lists.items };
 }
 
-/// Adds empty lists to none.
-fn add_empty(alloc: Global, count: usize, lists: &mut Vec<Vec<usize>>) -> Result<(), AllocError>
-    requires { lists.old.items ≡ [] }
-    ensures { OnOk result (map (λ list. list.items) lists.new.items ≡ replicate count []) }
-{
-    for _number in 0..count {
-        lists.push(Vec::new(alloc))?;
-    }
-    Ok(())
-}
-
 impl Lists {
     /// This number of empty lists.
     pub(crate) fn new(alloc: Global, count: usize) -> Result<Self, AllocError>
         ensures { IfOk result (λ lists. lists ≡ replicate count []) }
     {
         let mut lists = Vec::new(alloc);
-        match add_empty(alloc, count, &mut lists) {
-            Ok(()) => Ok(Lists { lists }),
-            Err(error) => {
-                drop(lists);
-                Err(error)
-            }
+        for _number in 0..count {
+            lists.push(Vec::new(alloc))?;
         }
+        Ok(Lists { lists })
     }
 
     /// The list with this number.

@@ -40,15 +40,6 @@ impl NetLists {
         Ok(NetLists { marks, lists })
     }
 
-    /// The lists.
-    fn into_lists(self) -> Lists
-        ensures { result ≡ self.lists }
-    {
-        let NetLists { marks, lists } = self;
-        drop(marks);
-        lists
-    }
-
     /// Adds a block's number to the list of the net, unless the net is in the set or isn't below
     /// the limit. Adds the net to the set.
     fn add_once(&mut self, net: u32, number: usize, limit: usize) -> Result<(), AllocError>
@@ -169,7 +160,7 @@ fn drivers_by_net(alloc: Global, blocks: &[LaidBlock], limit: usize) -> Result<L
         found.marks.clear();
         found.note_driver(block, number, limit)?;
     }
-    Ok(found.into_lists())
+    Ok(found.lists)
 }
 
 /// For each net below the limit, the numbers of the blocks at which it is wanted.
@@ -186,7 +177,7 @@ fn readers_by_net(
         found.marks.clear();
         found.note_reader(arch, block, number, limit)?;
     }
-    Ok(found.into_lists())
+    Ok(found.lists)
 }
 
 /// Groups the blocks of a layout by the nets that they drive and that are wanted at them. Takes

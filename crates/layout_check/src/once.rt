@@ -1,8 +1,7 @@
 //! Whether each number occurs just once.
-ghost use Rattle.std.specs.Prelude.{◌≡◌, ◌<◌, ℕ, All, IfOk, MatchOption, None, Some, count_by, length, replicate, slice_index_or};
+ghost use Rattle.std.specs.Prelude.{◌≡◌, ◌<◌, ℕ, All, IfOk, MatchOption, None, count_by, length, slice_index_or};
 ghost use Rattle.std.specs.Option.{ForSome};
-ghost use Rattle.layout_check.specs.Helds.{ArePlaces, IsOnceFault, is_number};
-ghost use Rattle.layout_check.specs.declared.once.OnceFault.TheVariants.{Twice};
+ghost use Rattle.layout_check.specs.Helds.{IsOnceFault, is_number};
 
 use std::alloc::{AllocError, Global};
 
@@ -11,29 +10,6 @@ use std::alloc::{AllocError, Global};
 pub(crate) enum OnceFault {
     Twice(usize, usize, usize),
     Never(usize),
-}
-
-/// The first number that occurs a second time, and at which places. Notes where numbers occur.
-fn first_twice(
-    numbers: &[Option<usize>],
-    places: &mut Vec<Option<usize>>,
-) -> Option<(usize, usize, usize)>
-    requires within { All (λ number. ForSome number (λ k. k < length places.old.items)) numbers.now }
-    requires none { (k : ℕ) → slice_index_or places.old.items k None ≡ None }
-    ensures long { length places.new.items ≡ length places.old.items }
-    ensures exact { MatchOption result
-        (ArePlaces numbers.now places.new.items)
-        (λ found. IsOnceFault numbers.now (length places.old.items) (Twice found.0 found.1 found.2)) }
-{
-    for place in 0..numbers.len() {
-        if let Some(number) = numbers[place] {
-            if let Some(earlier) = places[number] {
-                return Some((number, earlier, place));
-            }
-            places[number] = Some(place);
-        }
-    }
-    None
 }
 
 /// The first number without a place.
@@ -62,8 +38,13 @@ pub(crate) fn check_once(
         (IsOnceFault numbers.now count)) }
 {
     let mut places = Vec::from_elem(alloc, None, count)?;
-    if let Some(found) = first_twice(numbers, &mut places) {
-        return Ok(Some(OnceFault::Twice(found.0, found.1, found.2)));
+    for place in 0..numbers.len() {
+        if let Some(number) = numbers[place] {
+            if let Some(earlier) = places[number] {
+                return Ok(Some(OnceFault::Twice(number, earlier, place)));
+            }
+            places[number] = Some(place);
+        }
     }
     match first_never(places.as_slice()) {
         Some(number) => Ok(Some(OnceFault::Never(number))),

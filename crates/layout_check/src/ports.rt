@@ -1,5 +1,5 @@
 //! Whether the pads are the circuit's inputs and outputs.
-ghost use Rattle.std.specs.Prelude.{◌≡◌, ◌++◌, IfOk, MatchBool, OnOk};
+ghost use Rattle.std.specs.Prelude.{◌≡◌, IfOk, MatchBool};
 ghost use Rattle.std.specs.List.{flat_map};
 ghost use Rattle.layout_check.specs.Pads.{pad_nets};
 
@@ -17,21 +17,6 @@ pub(crate) enum PadUse {
     Output,
 }
 
-/// Adds the nets of the pads for that use, in the order of the blocks.
-fn add_pads(blocks: &[LaidBlock], pads: PadUse, nets: &mut Vec<usize>) -> Result<(), AllocError>
-    ensures { OnOk result (nets.new.items ≡ nets.old.items
-        ++ flat_map (λ laid. pad_nets pads laid.block) blocks.now) }
-{
-    for block in blocks {
-        match (block.block(), pads) {
-            (Block::InputPad(net), PadUse::Input) => nets.push(net as usize)?,
-            (Block::OutputPad(net), PadUse::Output) => nets.push(net as usize)?,
-            _ => {}
-        }
-    }
-    Ok(())
-}
-
 /// Whether the nets of the pads for that use are these, in the order of the blocks.
 pub(crate) fn has_pads(
     alloc: Global,
@@ -44,6 +29,12 @@ pub(crate) fn has_pads(
         (flat_map (λ laid. pad_nets pads laid.block) blocks.now ≡ nets.now → ⊥)) }
 {
     let mut found = Vec::new(alloc);
-    add_pads(blocks, pads, &mut found)?;
+    for block in blocks {
+        match (block.block(), pads) {
+            (Block::InputPad(net), PadUse::Input) => found.push(net as usize)?,
+            (Block::OutputPad(net), PadUse::Output) => found.push(net as usize)?,
+            _ => {}
+        }
+    }
     Ok(same_numbers(nets, found.as_slice()))
 }

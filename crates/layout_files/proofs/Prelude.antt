@@ -10,11 +10,10 @@ pub use Rattle.std.proofs.lemmas.List.FromFn.{get_or-enumerate_from, length-enum
 pub use Rattle.std.proofs.lemmas.List.Quantifiers.{position-Some}
 pub use Rattle.std.proofs.lemmas.List.Sums.{count_by-le-length, position_or_len_is}
 pub use Rattle.std.proofs.lemmas.Option.{get_or_from_slice_get, slice_get-get_or, slice_get_past, slice_get_within}
-pub use Rattle.std.proofs.lemmas.Result.{IfOk-weaker}
 pub use Rattle.std.proofs.lemmas.Slice.Eq.{bytes_eq-Decides, strip_prefix_is, strip_suffix_is}
 pub use Rattle.std.specs.List.{before_first, enumerate_from, flat_map, list_all, position_or_len, range_with_len}
 pub use Rattle.std.specs.Option.{ForSome, is_some, option_map, option_map_or, option_to_list}
-pub use Rattle.std.specs.Prelude.{count_by, if◌then◌else◌, nat_le, ⊤}
+pub use Rattle.std.specs.Prelude.{count_by, if◌then◌else◌, nat_le}
 pub use Rattle.std.specs.Str.{bytes_eq}
 pub use Rattle.implements.proofs.Unique.{count-append}
 pub use Rattle.layout_files.specs.Cursors.{IsPlain, IsSame, has_line, is_word_end, left_after, size, without_front}

@@ -67,6 +67,11 @@ finish start mid new first s whole e g h = printed_as start new (first ++ s) who
 pub same_text : (start new : Option (List ℕ)) (s whole : List ℕ) → s ≡ whole → new ≡ left_after start s → new ≡ left_after start whole
 same_text start new s whole g h = printed_as start new s whole h g
 
+-- a print of two parts is compared with a text
+pub compared : {E : Type 0} (outcome : Result (Unit {0}) E) (text : List ℕ) (start mid new : Option (List ℕ)) (first s whole : List ℕ) → start ≡ Some text → mid ≡ left_after start first → first ++ s ≡ whole → new ≡ left_after mid s
+    → OnOk outcome (new ≡ Some []) → OnErr outcome (new ≢ Some []) → IsSame outcome text whole
+compared outcome text start mid new first s whole begun e g h ok err = same_outcome outcome text whole new (finish start mid new first s whole e g h ∙ ap (λ left. left_after left whole) begun) ok err
+
 -- an element with its number
 pub numbered : {X : Type 0} (xs : List X) (i : ℕ) (x : X) → i < length xs → x ≡ get_or xs i x → slice_get (enumerate_from 0 xs) i ≡ Some (i, x)
 numbered xs i x within e = grind (arith, slice_get-get_or, length-enumerate_from, get_or-enumerate_from 0 xs i (i, x) within)

@@ -3,7 +3,6 @@ use Rattle.std.specs.Prelude.{ℕ, ◌≡◌, ◌≢◌, AllPairs, ◌<◌, List
 use Rattle.std.specs.List.{enumerate_from}
 use Rattle.layout_files.specs.Prelude.{Circuit, net_name, Strip, Place, LaidBlock, place_line, line_of, text_of}
 use Rattle.layout_files.specs.Fitting.{HasFileNames, IsSmallPlace}
-use Rattle.layout_files.specs.Printing.{place_headings}
 
 -- ---- names
 
@@ -24,9 +23,6 @@ size_text strip = codes "Array size: " ++ (decimal strip.width ++ (codes " x " +
 abbrev pub IsSizeRead : Strip → Option (List ℕ) → Option (List ℕ) → Type 0
 IsSizeRead strip old new = (after : List ℕ) → old ≡ Some (size_text strip ++ (32 ∷ after)) → new ≡ Some (32 ∷ after)
 
-abbrev pub IsHeadingRead : Strip → Option (List ℕ) → Option (List ℕ) → Type 0
-IsHeadingRead strip old new = (circuit : Circuit) (after : List ℕ) → HasFileNames circuit → old ≡ Some (text_of (place_headings circuit strip) ++ after) → new ≡ Some after
-
 abbrev pub IsPlaceRead : ℕ → Option (List ℕ) → Place → Option (List ℕ) → Type 0
 IsPlaceRead number old place new = (circuit : Circuit) (laid : LaidBlock) (after : List ℕ) → HasFileNames circuit → IsSmallPlace laid.place
     → old ≡ Some (line_of (place_line circuit number laid) ++ after) → (place ≡ laid.place) × (new ≡ Some after)
@@ -37,7 +33,3 @@ place_lines circuit blocks = text_of (map (λ block. place_line circuit block.0 
 abbrev pub AreBlocksRead : Option (List ℕ) → List Place → Option (List ℕ) → Type 0
 AreBlocksRead old places new = (circuit : Circuit) (blocks : List LaidBlock) → HasFileNames circuit → All (λ laid. IsSmallPlace laid.place) blocks
     → old ≡ Some (place_lines circuit blocks) → (places ≡ map (λ laid. laid.place) blocks) × (new ≡ Some [])
-
-abbrev pub ArePlacesRead : Strip → Option (List ℕ) → List Place → Option (List ℕ) → Type 0
-ArePlacesRead strip old places new = (circuit : Circuit) (blocks : List LaidBlock) → HasFileNames circuit → All (λ laid. IsSmallPlace laid.place) blocks
-    → old ≡ Some (text_of (place_headings circuit strip) ++ place_lines circuit blocks) → (places ≡ map (λ laid. laid.place) blocks) × (new ≡ Some [])

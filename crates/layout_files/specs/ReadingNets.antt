@@ -3,7 +3,7 @@ use Rattle.std.specs.Prelude.{ℕ, ◌≡◌, ◌<◌, ◌≤◌, ◌^◌, List,
 use Rattle.std.specs.List.{flat_map, range_with_len}
 use Rattle.std.specs.Option.{ForSome, option_to_list}
 use Rattle.layout_files.specs.Prelude.{Arch, Circuit, net_name, Place, LaidBle, LaidBlock, Feed, ble_line, feed_or_open, feed_word, laid_lines, or_open, text_of, word_after_space, Stops}
-use Rattle.layout_files.specs.Cursors.{IsPlain, is_word_end, left_after}
+use Rattle.layout_files.specs.Cursors.{is_word_end, left_after}
 use Rattle.layout_files.specs.Fitting.{AreNumbered, FitsBle, FitsBlock, HasFileNames, HasNumber, feed_number}
 use Rattle.layout_files.specs.LayoutFiles.{IsBare}
 use Rattle.layout_files.specs.Printing.{global_lines}
@@ -79,11 +79,6 @@ IsPadRead names old found new = (circuit : Circuit) (net : ℕ) (after : List �
 abbrev pub cluster_text : Circuit → Arch → List ℕ → List (Option ℕ) → List LaidBle → List ℕ → List ℕ
 cluster_text circuit arch name pins bles after = name ++ (codes "\npinlist:" ++ (flat_map (λ pin. word_after_space (or_open (net_name circuit) pin)) pins ++ (10 ∷ (text_of (map (ble_line circuit arch) bles) ++ (10 ∷ after)))))
 
-abbrev pub IsClusterRead : List (List ℕ) → ℕ → Option (List ℕ) → List (Option ℕ) → List LaidBle → Option (List ℕ) → Type 0
-IsClusterRead names lut_size old found_pins found_bles new = (circuit : Circuit) (arch : Arch) (name : List ℕ) (pins : List (Option ℕ)) (bles : List LaidBle) (after : List ℕ) → names ≡ circuit.nets → lut_size ≡ arch.lut_size → HasFileNames circuit
-    → IsPlain name → All (λ pin. ForSome pin (λ net. net < length circuit.nets)) pins → All (FitsBle (length circuit.nets) arch.lut_size) bles
-    → old ≡ Some (cluster_text circuit arch name pins bles after) → (found_pins ≡ pins) × (found_bles ≡ bles) × (new ≡ Some after)
-
 -- the lines of a block at this place, whose number is this one if it is a cluster
 abbrev pub IsBlockRead : List (List ℕ) → ℕ → Place → ℕ → Option (List ℕ) → LaidBlock → Option (List ℕ) → Type 0
 IsBlockRead names lut_size place number old found new = (circuit : Circuit) (arch : Arch) (laid : LaidBlock) (after : List ℕ) → names ≡ circuit.nets → lut_size ≡ arch.lut_size → HasFileNames circuit → FitsBlock (length circuit.nets) arch.lut_size laid
@@ -92,9 +87,3 @@ IsBlockRead names lut_size place number old found new = (circuit : Circuit) (arc
 abbrev pub AreBlocksRead : List (List ℕ) → ℕ → List Place → Option (List ℕ) → List LaidBlock → Option (List ℕ) → Type 0
 AreBlocksRead names lut_size places old found new = (circuit : Circuit) (arch : Arch) (blocks : List LaidBlock) → names ≡ circuit.nets → lut_size ≡ arch.lut_size → HasFileNames circuit → All (FitsBlock (length circuit.nets) arch.lut_size) blocks
     → All IsBare blocks → AreNumbered blocks → length blocks < 2 ^ 32 → places ≡ map (λ laid. laid.place) blocks → old ≡ Some (text_of (flat_map (laid_lines circuit arch) blocks)) → (found ≡ blocks) × (new ≡ Some [])
-
--- the whole file
-abbrev pub IsPackingRead : List (List ℕ) → ℕ → List Place → Option (List ℕ) → List ℕ → List LaidBlock → Option (List ℕ) → Type 0
-IsPackingRead names lut_size places old globals found new = (circuit : Circuit) (arch : Arch) (nets : List ℕ) (blocks : List LaidBlock) → names ≡ circuit.nets → lut_size ≡ arch.lut_size → HasFileNames circuit → All (λ net. net < length circuit.nets) nets
-    → All (FitsBlock (length circuit.nets) arch.lut_size) blocks → All IsBare blocks → AreNumbered blocks → length blocks < 2 ^ 32 → places ≡ map (λ laid. laid.place) blocks
-    → old ≡ Some (text_of (global_lines circuit nets) ++ text_of (flat_map (laid_lines circuit arch) blocks)) → (globals ≡ nets) × (found ≡ blocks) × (new ≡ Some [])

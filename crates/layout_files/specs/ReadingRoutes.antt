@@ -5,7 +5,7 @@ use Rattle.layout_files.specs.Prelude.{Circuit, net_name, Strip, LaidNet, Layout
 use Rattle.layout_files.specs.Cursors.{IsPlain}
 use Rattle.layout_files.specs.Fitting.{FitsNet, HasFileNames, IsSmallNode, IsSmallPlace}
 use Rattle.layout_files.specs.LayoutFiles.{EndsAtSink, HasWholePaths}
-use Rattle.layout_files.specs.Printing.{heading_text, node_lines, route_headings}
+use Rattle.layout_files.specs.Printing.{heading_text, node_lines}
 
 -- ---- nodes
 
@@ -68,11 +68,6 @@ abbrev pub is_listed : List ℕ → Bool
 is_listed [] = false
 is_listed (first ∷ others) = true
 
--- what follows a net's first line, and an empty line
-abbrev pub IsRestRead : Bool → Option (List ℕ) → List ℕ → List (List Node) → Option (List ℕ) → Type 0
-IsRestRead global old listed paths new = (circuit : Circuit) (strip : Strip) (layout : Layout) (between : LaidNet) (after : List ℕ) → HasFileNames circuit → All (λ laid. IsSmallPlace laid.place) layout.blocks → FitsNet (length circuit.nets) between → HasWholePaths between
-    → global ≡ is_listed between.listed → old ≡ Some (net_rest circuit strip layout between between.listed ++ (10 ∷ after)) → (listed ≡ between.listed) × (paths ≡ between.paths) × (new ≡ Some after)
-
 abbrev pub IsNetRead : List (List ℕ) → ℕ → Option (List ℕ) → LaidNet → Option (List ℕ) → Type 0
 IsNetRead names number old found new = (circuit : Circuit) (strip : Strip) (layout : Layout) (between : LaidNet) (after : List ℕ) → names ≡ circuit.nets → HasFileNames circuit → All (λ laid. IsSmallPlace laid.place) layout.blocks
     → FitsNet (length circuit.nets) between → HasWholePaths between → old ≡ Some (text_of (between_lines circuit strip layout number between between.listed) ++ after) → (found ≡ between) × (new ≡ Some after)
@@ -83,12 +78,3 @@ nets_text circuit strip layout = text_of (flat_map (λ net. between_lines circui
 abbrev pub AreNetsRead : List (List ℕ) → Option (List ℕ) → List LaidNet → Option (List ℕ) → Type 0
 AreNetsRead names old found new = (circuit : Circuit) (strip : Strip) (layout : Layout) → names ≡ circuit.nets → HasFileNames circuit → All (λ laid. IsSmallPlace laid.place) layout.blocks
     → All (FitsNet (length circuit.nets)) layout.nets → All HasWholePaths layout.nets → old ≡ Some (nets_text circuit strip layout) → (found ≡ layout.nets) × (new ≡ Some [])
-
--- ---- the whole file
-
-abbrev pub IsStartRead : Strip → Option (List ℕ) → Option (List ℕ) → Type 0
-IsStartRead strip old new = (after : List ℕ) → old ≡ Some (text_of (route_headings strip) ++ after) → new ≡ Some after
-
-abbrev pub IsRoutingRead : List (List ℕ) → Strip → Option (List ℕ) → List LaidNet → Option (List ℕ) → Type 0
-IsRoutingRead names strip old found new = (circuit : Circuit) (layout : Layout) → names ≡ circuit.nets → HasFileNames circuit → All (λ laid. IsSmallPlace laid.place) layout.blocks
-    → All (FitsNet (length circuit.nets)) layout.nets → All HasWholePaths layout.nets → old ≡ Some (text_of (route_headings strip) ++ nets_text circuit strip layout) → (found ≡ layout.nets) × (new ≡ Some [])

@@ -15,18 +15,18 @@ use strip_files::Fault;
 /// Reads the nets on the pins.
 pub(crate) fn read_pins(
     cursor: &mut Cursor<'_>,
-    names: &NameSet<'_>,
-    pins: &mut Vec<Option<u32>>,
-) -> Result<(), AllocError>
-    requires { pins.old.items ≡ [] }
-    ensures read { IfOk result (λ _. ArePinsRead names.now cursor.old pins.new.items cursor.new) }
+    context: NetContext<'_, '_>,
+) -> Result<Vec<Option<u32>>, AllocError>
+    ensures read { IfOk result (λ pins. ArePinsRead context.entry.names.now cursor.old pins.items
+        cursor.new) }
     ensures shorter { size cursor.new ≤ size cursor.old }
 {
+    let mut pins = Vec::new(context.alloc);
     while cursor.takes(" ") {
-        let pin = net_on(cursor, names);
+        let pin = net_on(cursor, context.names);
         pins.push(pin)?;
     }
-    Ok(())
+    Ok(pins)
 }
 
 /// Reads the net on a pin, or `open`.
@@ -45,18 +45,17 @@ fn net_on(cursor: &mut Cursor<'_>, names: &NameSet<'_>) -> Option<u32>
 pub(crate) fn read_bles(
     cursor: &mut Cursor<'_>,
     context: NetContext<'_, '_>,
-    bles: &mut Vec<LaidBle>,
-) -> Result<(), AllocError>
-    requires { bles.old.items ≡ [] }
-    ensures read { IfOk result (λ _. AreBlesRead context.entry.names.now context.entry.lut_size
-        cursor.old bles.new.items cursor.new) }
+) -> Result<Vec<LaidBle>, AllocError>
+    ensures read { IfOk result (λ bles. AreBlesRead context.entry.names.now context.entry.lut_size
+        cursor.old bles.items cursor.new) }
     ensures shorter { size cursor.new ≤ size cursor.old }
 {
+    let mut bles = Vec::new(context.alloc);
     while cursor.takes("subblock: ") {
         let ble = read_ble(cursor, context)?;
         bles.push(ble)?;
     }
-    Ok(())
+    Ok(bles)
 }
 
 /// Reads a BLE: its name, its inputs, its output pin and its clock pin.
@@ -68,35 +67,27 @@ fn read_ble(cursor: &mut Cursor<'_>, context: NetContext<'_, '_>) -> Result<Laid
     cursor.expect(Fault::BadElement);
     let word = cursor.word();
     let name = net_named(cursor, context.names, word);
-    let mut inputs = Vec::new(context.alloc);
-    match read_inputs(cursor, context.lut_size, &mut inputs) {
-        Ok(()) => {
-            let output = read_pin(cursor);
-            let clock = read_pin(cursor);
-            cursor.text("\n");
-            Ok(LaidBle::new(name, inputs, output, clock))
-        }
-        Err(error) => {
-            drop(inputs);
-            Err(error)
-        }
-    }
+    let inputs = read_inputs(cursor, context)?;
+    let output = read_pin(cursor);
+    let clock = read_pin(cursor);
+    cursor.text("\n");
+    Ok(LaidBle::new(name, inputs, output, clock))
 }
 
 /// Reads where the inputs of a table come from. `open` is no input.
 fn read_inputs(
     cursor: &mut Cursor<'_>,
-    lut_size: u32,
-    inputs: &mut Vec<Feed>,
-) -> Result<(), AllocError>
-    requires { inputs.old.items ≡ [] }
-    ensures read { IfOk result (λ _. AreInputsRead lut_size cursor.old inputs.new.items cursor.new) }
+    context: NetContext<'_, '_>,
+) -> Result<Vec<Feed>, AllocError>
+    ensures read { IfOk result (λ inputs. AreInputsRead context.entry.lut_size cursor.old
+        inputs.items cursor.new) }
     ensures shorter { size cursor.new ≤ size cursor.old }
 {
-    for _place in 0..lut_size {
-        read_input(cursor, inputs)?;
+    let mut inputs = Vec::new(context.alloc);
+    for _place in 0..context.lut_size {
+        read_input(cursor, &mut inputs)?;
     }
-    Ok(())
+    Ok(inputs)
 }
 
 /// Reads where an input comes from, and adds it to the others. `open` is no input.

@@ -1,12 +1,12 @@
 //! A place in a text, from which the text is read, or compared with what is printed.
-ghost use Rattle.std.specs.Prelude.{◌≡◌, ◌≢◌, ◌≤◌, ◌-◌, ◌+◌, [], length, nat_lt, IsTrue, OnErr, OnOk, Some, None, is_some, if◌then◌else◌};
+ghost use Rattle.std.specs.Prelude.{◌≡◌, ◌≢◌, ◌≤◌, ◌-◌, ◌+◌, [], length, nat_lt, IsTrue, OnErr, OnOk, Ok, Some, None, is_some, if◌then◌else◌};
 ghost use Rattle.std.specs.List.{flat_map};
 ghost use Rattle.layout_files.specs.Cursors.{IsNumberRead, IsWordRead, has_line, left_after, size};
 ghost use Rattle.layout_files.specs.Prelude.{bytes_of_part};
 
 use crate::front::{split_digits, split_word};
 use itoa::Buffer;
-use line_text::decimal_u32;
+use line_text::{TextError, decimal_u32};
 use std::marker::Model;
 use strip_files::{Fault, File, FileFault};
 use text_parts::Part;
@@ -189,20 +189,34 @@ impl<'t> Cursor<'t> {
         }
     }
 
+    /// What was found, if all of the file's text was taken; otherwise the fault of the line at
+    /// which it differs.
+    pub(crate) fn finish<T: Drop>(
+        &self,
+        file: File,
+        text: &[u8],
+        found: T,
+    ) -> Result<T, TextError<FileFault>>
+        ensures { self.now ≡ Some [] → result ≡ Ok found }
+    {
+        self.outcome(file, text)?;
+        Ok(found)
+    }
+
     /// Whether all of the file's text was taken; otherwise the fault of the line at which it
     /// differs.
-    pub(crate) fn outcome(&self, file: File, text: &[u8]) -> Result<(), FileFault>
+    pub(crate) fn outcome(&self, file: File, text: &[u8]) -> Result<(), TextError<FileFault>>
         ensures ok { OnOk result (self.now ≡ Some []) }
         ensures err { OnErr result (self.now ≢ Some []) }
     {
         if !self.differs && self.left.is_empty() {
             return Ok(());
         }
-        Err(FileFault {
+        Err(TextError::Fault(FileFault {
             file,
             line: self.line(text),
             fault: self.fault,
-        })
+        }))
     }
 
     /// The number of the line of this text in which the cursor is.

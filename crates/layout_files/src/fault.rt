@@ -11,6 +11,12 @@ pub enum LayoutFault {
     Line(FileFault),
 }
 
+impl From<FileFault> for LayoutFault {
+    fn from(fault: FileFault) -> Self {
+        LayoutFault::Line(fault)
+    }
+}
+
 impl fmt::Display for LayoutFault {
     fn fmt<W: fmt::Write>(&self, f: &mut fmt::Formatter<W>) -> fmt::Result {
         match self {

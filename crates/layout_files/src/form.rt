@@ -4,7 +4,7 @@ ghost use Rattle.layout_files.specs.LayoutFiles.{EndsAtSink, HasPrintedForm, Has
 
 use blif::NetNames;
 use cluster::Block;
-use layouts::{LaidBlock, LaidNet, LaidPath, Layout};
+use layouts::{LaidBlock, LaidNet, Layout};
 use line_text::is_word;
 use rr_graph::{Node, NodeKind};
 
@@ -13,18 +13,8 @@ use rr_graph::{Node, NodeKind};
 pub(crate) fn has_printed_form(layout: &Layout) -> bool
     ensures { IsTrue result ↔ HasPrintedForm layout.now }
 {
-    are_bare(layout.blocks()) && have_whole_paths(layout.nets())
-}
-
-fn are_bare(blocks: &[LaidBlock]) -> bool
-    ensures { IsTrue result ↔ All IsBare blocks.now }
-{
-    for laid in blocks {
-        if !is_bare(laid) {
-            return false;
-        }
-    }
-    true
+    layout.blocks().iter().all(|laid| is_bare(laid))
+        && layout.nets().iter().all(|net| has_whole_paths(net))
 }
 
 fn is_bare(laid: &LaidBlock) -> bool
@@ -36,32 +26,11 @@ fn is_bare(laid: &LaidBlock) -> bool
     }
 }
 
-fn have_whole_paths(nets: &[LaidNet]) -> bool
-    ensures { IsTrue result ↔ All HasWholePaths nets.now }
-{
-    for net in nets {
-        if !has_whole_paths(net) {
-            return false;
-        }
-    }
-    true
-}
-
 fn has_whole_paths(net: &LaidNet) -> bool
     ensures { IsTrue result ↔ HasWholePaths net.now }
 {
-    (net.listed_blocks().is_empty() || net.paths().is_empty()) && end_at_sinks(net.paths())
-}
-
-fn end_at_sinks(paths: &[LaidPath]) -> bool
-    ensures { IsTrue result ↔ All EndsAtSink paths.now }
-{
-    for path in paths {
-        if !ends_at_sink(path.nodes()) {
-            return false;
-        }
-    }
-    true
+    (net.listed_blocks().is_empty() || net.paths().is_empty())
+        && net.paths().iter().all(|path| ends_at_sink(path.nodes()))
 }
 
 /// Whether the first sink is the last node.

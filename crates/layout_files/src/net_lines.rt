@@ -1,18 +1,21 @@
 //! The lines of a `.net` file: the global nets, and the blocks.
-ghost use Rattle.std.specs.Prelude.{◌≡◌, ◌≤◌, ◌<◌, ◌+◌, ◌-◌, ◌^◌, if◌then◌else◌, slice_get, IfOk, []};
+ghost use Rattle.std.specs.Prelude.{◌≡◌, ◌≤◌, ◌<◌, ◌+◌, ◌-◌, ◌^◌, if◌then◌else◌, map, slice_get, IfOk};
 ghost use Rattle.layout_files.specs.Cursors.{size};
-ghost use Rattle.layout_files.specs.Fitting.{is_cluster};
-ghost use Rattle.layout_files.specs.ReadingNets.{AreBlocksRead, AreGlobalsRead, IsBlockRead, IsClusterRead, IsGlobalRead, IsPackingRead, IsPadRead};
+ghost use Rattle.layout_files.specs.Fitting.{FitsFiles, HasFileNames, is_cluster};
+ghost use Rattle.layout_files.specs.LayoutFiles.{HasPrintedForm};
+ghost use Rattle.layout_files.specs.Prelude.{Arch, Circuit, Layout, net_text};
+ghost use Rattle.layout_files.specs.ReadingFiles.{Given};
+ghost use Rattle.layout_files.specs.ReadingNets.{AreBlocksRead, AreGlobalsRead, IsBlockRead, IsGlobalRead, IsPadRead};
 
 use crate::block_lines::{read_bles, read_pins};
 use crate::cursor::Cursor;
 use crate::names::net_named;
 use cluster::Block;
 use grid::Place;
-use layouts::{LaidBle, LaidBlock};
-use line_text::NameSet;
+use layouts::LaidBlock;
+use line_text::{NameSet, TextError};
 use std::alloc::{AllocError, Global};
-use strip_files::Fault;
+use strip_files::{Fault, File, FileFault};
 
 /// What the lines of a `.net` file refer to.
 #[derive(Clone, Copy)]
@@ -23,41 +26,42 @@ pub(crate) struct NetContext<'a, 'c> {
     pub(crate) lut_size: u32,
 }
 
-/// Reads the global nets and the blocks, which are at these places.
+/// Reads a `.net` file, whose blocks are at these places: its global nets and its blocks.
 pub(crate) fn read_packing(
-    cursor: &mut Cursor<'_>,
     context: NetContext<'_, '_>,
+    text: &[u8],
     places: &[Place],
-    globals: &mut Vec<u32>,
-    blocks: &mut Vec<LaidBlock>,
-) -> Result<(), AllocError>
-    requires globals { globals.old.items ≡ [] }
-    requires blocks { blocks.old.items ≡ [] }
-    ensures { IfOk result (λ _. IsPackingRead context.entry.names.now context.entry.lut_size places.now
-        cursor.old globals.new.items blocks.new.items cursor.new) }
+) -> Result<(Vec<u32>, Vec<LaidBlock>), TextError<FileFault>>
+    ensures { (circuit : Circuit) (arch : Arch) (layout : Layout) →
+        context.entry.names.now ≡ circuit.nets → context.entry.lut_size ≡ arch.lut_size →
+        HasFileNames circuit → FitsFiles circuit arch layout → HasPrintedForm layout →
+        places.now ≡ map (λ laid. laid.place) layout.blocks → text.now ≡ net_text circuit arch layout →
+        Given result (λ found. (found.0.items ≡ layout.globals) × (found.1.items ≡ layout.blocks)) }
 {
-    read_globals(cursor, context.names, globals)?;
-    read_blocks(cursor, context, places, blocks)
+    let mut cursor = Cursor::new(text);
+    let globals = read_globals(&mut cursor, context)?;
+    let blocks = read_blocks(&mut cursor, context, places)?;
+    cursor.finish(File::Net, text, (globals, blocks))
 }
 
 /// Reads the lines of the global nets.
 fn read_globals(
     cursor: &mut Cursor<'_>,
-    names: &NameSet<'_>,
-    globals: &mut Vec<u32>,
-) -> Result<(), AllocError>
-    requires { globals.old.items ≡ [] }
-    ensures { IfOk result (λ _. AreGlobalsRead names.now cursor.old globals.new.items cursor.new) }
+    context: NetContext<'_, '_>,
+) -> Result<Vec<u32>, AllocError>
+    ensures { IfOk result (λ globals. AreGlobalsRead context.entry.names.now cursor.old
+        globals.items cursor.new) }
 {
+    let mut globals = Vec::new(context.alloc);
     while cursor.takes(".global ") {
-        let net = read_global(cursor, names);
+        let net = read_global(cursor, context.names);
         globals.push(net)?;
     }
     if globals.is_empty() {
-        return Ok(());
+        return Ok(globals);
     }
     cursor.text("\n");
-    Ok(())
+    Ok(globals)
 }
 
 /// Reads the name of a global net, and the end of its line.
@@ -77,26 +81,25 @@ fn read_blocks(
     cursor: &mut Cursor<'_>,
     context: NetContext<'_, '_>,
     places: &[Place],
-    blocks: &mut Vec<LaidBlock>,
-) -> Result<(), AllocError>
-    requires { blocks.old.items ≡ [] }
-    ensures { IfOk result (λ _. AreBlocksRead context.entry.names.now context.entry.lut_size places.now
-        cursor.old blocks.new.items cursor.new) }
+) -> Result<Vec<LaidBlock>, AllocError>
+    ensures { IfOk result (λ blocks. AreBlocksRead context.entry.names.now context.entry.lut_size
+        places.now cursor.old blocks.items cursor.new) }
 {
+    let mut blocks = Vec::new(context.alloc);
     let mut clusters = 0u32;
     while cursor.has_more() {
         let place = match place_at(places, blocks.len()) {
             Some(place) => place,
             None => {
                 cursor.fail(Fault::OtherPlaced);
-                return Ok(());
+                return Ok(blocks);
             }
         };
         let laid = read_block(cursor, context, place, clusters)?;
         clusters = clusters_after(clusters, laid.block());
         blocks.push(laid)?;
     }
-    Ok(())
+    Ok(blocks)
 }
 
 /// The place at this index, if there is one.
@@ -139,16 +142,13 @@ fn read_block(
         return Ok(LaidBlock::new(block, Vec::new(alloc), Vec::new(alloc), place));
     }
     cursor.text(".clb ");
-    let mut pins = Vec::new(alloc);
-    let mut bles = Vec::new(alloc);
-    match read_cluster(cursor, context, &mut pins, &mut bles) {
-        Ok(()) => Ok(LaidBlock::new(Block::Cluster(number), pins, bles, place)),
-        Err(error) => {
-            drop(pins);
-            drop(bles);
-            Err(error)
-        }
-    }
+    cursor.word();
+    cursor.text("\npinlist:");
+    let pins = read_pins(cursor, context)?;
+    cursor.text("\n");
+    let bles = read_bles(cursor, context)?;
+    cursor.text("\n");
+    Ok(LaidBlock::new(Block::Cluster(number), pins, bles, place))
 }
 
 /// Reads the name of a pad's net, and the line of its pin.
@@ -162,26 +162,4 @@ fn read_pad(cursor: &mut Cursor<'_>, names: &NameSet<'_>) -> u32
     cursor.word();
     cursor.text("\n\n");
     net
-}
-
-/// Reads the rest of the lines of a cluster, after its keyword.
-fn read_cluster(
-    cursor: &mut Cursor<'_>,
-    context: NetContext<'_, '_>,
-    pins: &mut Vec<Option<u32>>,
-    bles: &mut Vec<LaidBle>,
-) -> Result<(), AllocError>
-    requires pins { pins.old.items ≡ [] }
-    requires bles { bles.old.items ≡ [] }
-    ensures read { IfOk result (λ _. IsClusterRead context.entry.names.now context.entry.lut_size cursor.old
-        pins.new.items bles.new.items cursor.new) }
-    ensures shorter { size cursor.new ≤ size cursor.old }
-{
-    cursor.word();
-    cursor.text("\npinlist:");
-    read_pins(cursor, context.names, pins)?;
-    cursor.text("\n");
-    read_bles(cursor, context, bles)?;
-    cursor.text("\n");
-    Ok(())
 }

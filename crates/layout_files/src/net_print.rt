@@ -1,8 +1,8 @@
-//! Prints the `.net` text of a layout.
+//! Compares the print of a layout's packing with the `.net` file.
 ghost use Rattle.std.specs.Prelude.{◌≡◌, decimal, map, slice_get};
 ghost use Rattle.std.specs.List.{flat_map, range_with_len};
 ghost use Rattle.layout_files.specs.Prelude.{net_name, ble_line, feed_or_open, laid_lines, net_text, or_open, line_of, word_after_space, text_of};
-ghost use Rattle.layout_files.specs.Cursors.{left_after};
+ghost use Rattle.layout_files.specs.Cursors.{IsSame, left_after};
 ghost use Rattle.layout_files.specs.Printing.{cluster_lines, global_lines};
 
 use crate::cursor::Cursor;
@@ -12,19 +12,23 @@ use blif::Circuit;
 use cluster::Block;
 use implements::Feed;
 use layouts::{LaidBle, LaidBlock, Layout};
+use line_text::TextError;
+use strip_files::{File, FileFault};
 use text_parts::Part;
 
-/// Prints the `.net` text of a layout.
-pub(crate) fn print_net_text(
-    print: &mut Cursor<'_>,
+/// Compares the print of the packing with the `.net` file.
+pub(crate) fn compare_net(
     circuit: &Circuit,
     arch: &Arch,
+    text: &[u8],
     layout: &Layout,
-)
-    ensures { print.new ≡ left_after print.old (net_text circuit.now arch.now layout.now) }
+) -> Result<(), TextError<FileFault>>
+    ensures { IsSame result text.now (net_text circuit.now arch.now layout.now) }
 {
-    print_globals(print, circuit, layout.globals());
-    print_blocks(print, circuit, arch, layout.blocks())
+    let mut print = Cursor::new(text);
+    print_globals(&mut print, circuit, layout.globals());
+    print_blocks(&mut print, circuit, arch, layout.blocks());
+    print.outcome(File::Net, text)
 }
 
 /// Prints the lines of the global nets.

@@ -1,42 +1,42 @@
 //! The lines of a `.place` file: the places of the blocks.
-ghost use Rattle.std.specs.Prelude.{◌≡◌, ◌≤◌, ◌-◌, IfOk, []};
+ghost use Rattle.std.specs.Prelude.{◌≡◌, ◌≤◌, ◌-◌, IfOk, map};
 ghost use Rattle.layout_files.specs.Cursors.{size};
-ghost use Rattle.layout_files.specs.Reading.{AreBlocksRead, ArePlacesRead, IsHeadingRead, IsPlaceRead, IsSizeRead};
+ghost use Rattle.layout_files.specs.Reading.{AreBlocksRead, IsPlaceRead, IsSizeRead};
+ghost use Rattle.layout_files.specs.Fitting.{FitsFiles, HasFileNames};
+ghost use Rattle.layout_files.specs.Prelude.{Arch, Circuit, Layout, place_text};
+ghost use Rattle.layout_files.specs.ReadingFiles.{Given};
 
 use crate::cursor::Cursor;
 use grid::{Place, Strip};
-use std::alloc::AllocError;
-use strip_files::Fault;
+use line_text::TextError;
+use std::alloc::{AllocError, Global};
+use strip_files::{Fault, File, FileFault};
 use text_parts::Part;
 
-/// Reads the places of the blocks, by number.
+/// Reads a `.place` file: the places of the blocks, by number.
 pub(crate) fn read_places(
-    cursor: &mut Cursor<'_>,
+    alloc: Global,
     strip: Strip,
-    places: &mut Vec<Place>,
-) -> Result<(), AllocError>
-    requires { places.old.items ≡ [] }
-    ensures { IfOk result (λ _. ArePlacesRead strip cursor.old places.new.items cursor.new) }
+    text: &[u8],
+) -> Result<Vec<Place>, TextError<FileFault>>
+    ensures { (circuit : Circuit) (arch : Arch) (layout : Layout) → HasFileNames circuit →
+        FitsFiles circuit arch layout → text.now ≡ place_text circuit strip layout →
+        Given result (λ places. places.items ≡ map (λ laid. laid.place) layout.blocks) }
 {
-    read_headings(cursor, strip);
-    read_blocks(cursor, places)
-}
-
-/// Reads the lines before the first block's.
-fn read_headings(cursor: &mut Cursor<'_>, strip: Strip)
-    ensures { IsHeadingRead strip cursor.old cursor.new }
-{
+    let mut cursor = Cursor::new(text);
     cursor.expect(Fault::UnknownLine);
     cursor.text("Netlist file: ");
     cursor.expect(Fault::OtherText);
     cursor.word();
     cursor.text(" Architecture file: device.arch\n");
-    read_size(cursor, strip);
+    read_size(&mut cursor, strip);
     cursor.text(" logic blocks\n");
     cursor.expect(Fault::OtherText);
     cursor.text("\n");
     cursor.text("#block name x y subblk block number\n");
     cursor.text("#---------- - - ------ ------------\n");
+    let places = read_blocks(alloc, &mut cursor)?;
+    cursor.finish(File::Place, text, places)
 }
 
 /// Reads the size of the strip.
@@ -54,15 +54,15 @@ pub(crate) fn read_size(cursor: &mut Cursor<'_>, strip: Strip)
 }
 
 /// Reads the lines of the blocks.
-fn read_blocks(cursor: &mut Cursor<'_>, places: &mut Vec<Place>) -> Result<(), AllocError>
-    requires { places.old.items ≡ [] }
-    ensures { IfOk result (λ _. AreBlocksRead cursor.old places.new.items cursor.new) }
+fn read_blocks(alloc: Global, cursor: &mut Cursor<'_>) -> Result<Vec<Place>, AllocError>
+    ensures { IfOk result (λ places. AreBlocksRead cursor.old places.items cursor.new) }
 {
+    let mut places = Vec::new(alloc);
     while cursor.has_more() {
         let place = read_place(cursor, places.len());
         places.push(place)?;
     }
-    Ok(())
+    Ok(places)
 }
 
 /// Reads the line of the block of that number, and returns its place.

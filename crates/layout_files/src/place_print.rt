@@ -1,7 +1,7 @@
-//! Prints the `.place` text of a layout.
+//! Compares the print of a layout's places with the `.place` file.
 ghost use Rattle.std.specs.Prelude.{◌≡◌, map};
 ghost use Rattle.std.specs.List.{enumerate_from};
-ghost use Rattle.layout_files.specs.Cursors.{left_after};
+ghost use Rattle.layout_files.specs.Cursors.{IsSame, left_after};
 ghost use Rattle.layout_files.specs.Printing.{place_headings};
 ghost use Rattle.layout_files.specs.Prelude.{place_line, place_text, line_of, text_of};
 
@@ -10,24 +10,20 @@ use crate::laid_names::laid_name;
 use blif::Circuit;
 use grid::Strip;
 use layouts::{LaidBlock, Layout};
+use line_text::TextError;
+use strip_files::{File, FileFault};
 use text_parts::Part;
 
-/// Prints the `.place` text of a layout.
-pub(crate) fn print_place_text(
-    print: &mut Cursor<'_>,
+/// Compares the print of the places with the `.place` file.
+pub(crate) fn compare_place(
     circuit: &Circuit,
     strip: Strip,
+    text: &[u8],
     layout: &Layout,
-)
-    ensures { print.new ≡ left_after print.old (place_text circuit.now strip layout.now) }
+) -> Result<(), TextError<FileFault>>
+    ensures { IsSame result text.now (place_text circuit.now strip layout.now) }
 {
-    print_headings(print, circuit, strip);
-    print_places(print, circuit, layout.blocks())
-}
-
-fn print_headings(print: &mut Cursor<'_>, circuit: &Circuit, strip: Strip)
-    ensures { print.new ≡ left_after print.old (text_of (place_headings circuit.now strip)) }
-{
+    let mut print = Cursor::new(text);
     print.print(&[
         Part::Text("Netlist file: "),
         Part::Bytes(circuit.model.as_bytes()),
@@ -38,7 +34,9 @@ fn print_headings(print: &mut Cursor<'_>, circuit: &Circuit, strip: Strip)
         Part::Text(
             " logic blocks\n\n#block name x y subblk block number\n#---------- - - ------ ------------\n",
         ),
-    ])
+    ]);
+    print_places(&mut print, circuit, layout.blocks());
+    print.outcome(File::Place, text)
 }
 
 /// Prints the lines of the blocks, with their numbers.

@@ -1,107 +1,82 @@
 //! The lines of a `.route` file: the nets between blocks.
-ghost use Rattle.std.specs.Prelude.{◌≡◌, ◌≤◌, ◌-◌, IfOk, []};
+ghost use Rattle.std.specs.Prelude.{◌≡◌, ◌≤◌, ◌-◌, IfOk};
 ghost use Rattle.layout_files.specs.Cursors.{size};
-ghost use Rattle.layout_files.specs.ReadingRoutes.{AreListedRead, AreNetsRead, ArePathsRead, IsHeadingRead, IsListedRead, IsNetBefore, IsNetRead, IsPathRead, IsRestRead, IsRoutingRead, IsStartRead, name_end};
+ghost use Rattle.layout_files.specs.ReadingRoutes.{AreListedRead, AreNetsRead, ArePathsRead, IsHeadingRead, IsListedRead, IsNetBefore, IsNetRead, IsPathRead, name_end};
+ghost use Rattle.layout_files.specs.Fitting.{FitsFiles, HasFileNames};
+ghost use Rattle.layout_files.specs.LayoutFiles.{HasPrintedForm};
+ghost use Rattle.layout_files.specs.Prelude.{Arch, Circuit, Layout, route_text};
+ghost use Rattle.layout_files.specs.ReadingFiles.{Given};
 
 use crate::cursor::Cursor;
 use crate::form::is_sink;
 use crate::names::net_named;
+use crate::net_lines::NetContext;
 use crate::node_lines::read_node;
 use crate::place_lines::read_size;
 use grid::Strip;
 use layouts::{LaidNet, LaidPath};
-use line_text::NameSet;
+use line_text::{NameSet, TextError};
 use rr_graph::Node;
 use std::alloc::{AllocError, Global};
-use strip_files::Fault;
+use strip_files::{Fault, File, FileFault};
 use text_parts::Part;
 
-/// Reads the nets between blocks, by number.
+/// Reads a `.route` file: the nets between blocks, by number.
 pub(crate) fn read_routing(
-    alloc: Global,
-    cursor: &mut Cursor<'_>,
-    names: &NameSet<'_>,
+    context: NetContext<'_, '_>,
     strip: Strip,
-    nets: &mut Vec<LaidNet>,
-) -> Result<(), AllocError>
-    requires { nets.old.items ≡ [] }
-    ensures { IfOk result (λ _. IsRoutingRead names.now strip cursor.old nets.new.items cursor.new) }
+    text: &[u8],
+) -> Result<Vec<LaidNet>, TextError<FileFault>>
+    ensures { (circuit : Circuit) (arch : Arch) (layout : Layout) →
+        context.entry.names.now ≡ circuit.nets → HasFileNames circuit →
+        FitsFiles circuit arch layout → HasPrintedForm layout →
+        text.now ≡ route_text circuit strip layout →
+        Given result (λ nets. nets.items ≡ layout.nets) }
 {
-    read_start(cursor, strip);
-    read_nets(alloc, cursor, names, nets)
-}
-
-/// Reads the lines before the first net's.
-fn read_start(cursor: &mut Cursor<'_>, strip: Strip)
-    ensures { IsStartRead strip cursor.old cursor.new }
-{
-    read_size(cursor, strip);
+    let mut cursor = Cursor::new(text);
+    read_size(&mut cursor, strip);
     cursor.text(" logic blocks.\n");
     cursor.expect(Fault::UnknownLine);
     cursor.text("\n");
     cursor.text("Routing:\n");
     cursor.text("\n");
+    let nets = read_nets(&mut cursor, context)?;
+    cursor.finish(File::Route, text, nets)
 }
 
 /// Reads the lines of the nets.
 fn read_nets(
-    alloc: Global,
     cursor: &mut Cursor<'_>,
-    names: &NameSet<'_>,
-    nets: &mut Vec<LaidNet>,
-) -> Result<(), AllocError>
-    requires { nets.old.items ≡ [] }
-    ensures { IfOk result (λ _. AreNetsRead names.now cursor.old nets.new.items cursor.new) }
+    context: NetContext<'_, '_>,
+) -> Result<Vec<LaidNet>, AllocError>
+    ensures { IfOk result (λ nets. AreNetsRead context.entry.names.now cursor.old nets.items
+        cursor.new) }
 {
+    let mut nets = Vec::new(context.alloc);
     while cursor.has_more() {
-        let net = read_net(alloc, cursor, names, nets.len())?;
+        let net = read_net(cursor, context, nets.len())?;
         nets.push(net)?;
     }
-    Ok(())
+    Ok(nets)
 }
 
 /// Reads the lines of the net of that number.
 fn read_net(
-    alloc: Global,
     cursor: &mut Cursor<'_>,
-    names: &NameSet<'_>,
+    context: NetContext<'_, '_>,
     number: usize,
 ) -> Result<LaidNet, AllocError>
-    ensures read { IfOk result (λ net. IsNetRead names.now number cursor.old net cursor.new) }
+    ensures read { IfOk result (λ net. IsNetRead context.entry.names.now number cursor.old net
+        cursor.new) }
     ensures shorter { IfOk result (λ _. size cursor.new ≤ size cursor.old - 1) }
 {
-    let heading = read_heading(cursor, names, number);
-    let mut listed = Vec::new(alloc);
-    let mut paths = Vec::new(alloc);
-    match read_rest(alloc, cursor, heading.is_global, &mut listed, &mut paths) {
-        Ok(()) => Ok(LaidNet::new(heading.net, listed, paths)),
-        Err(error) => {
-            drop(listed);
-            drop(paths);
-            Err(error)
-        }
+    let heading = read_heading(cursor, context.names, number);
+    if heading.is_global {
+        let listed = read_listed(context.alloc, cursor)?;
+        return Ok(LaidNet::new(heading.net, listed, Vec::new(context.alloc)));
     }
-}
-
-/// Reads what follows a net's first line: its listed blocks, or its paths.
-fn read_rest(
-    alloc: Global,
-    cursor: &mut Cursor<'_>,
-    is_global: bool,
-    listed: &mut Vec<u32>,
-    paths: &mut Vec<LaidPath>,
-) -> Result<(), AllocError>
-    requires listed { listed.old.items ≡ [] }
-    requires paths { paths.old.items ≡ [] }
-    ensures read { IfOk result (λ _. IsRestRead is_global cursor.old listed.new.items
-        paths.new.items cursor.new) }
-    ensures shorter { size cursor.new ≤ size cursor.old }
-{
-    if is_global {
-        read_listed(cursor, listed)
-    } else {
-        read_paths(alloc, cursor, paths)
-    }
+    let paths = read_paths(context.alloc, cursor)?;
+    Ok(LaidNet::new(heading.net, Vec::new(context.alloc), paths))
 }
 
 /// What the first line of a net says: the net, and whether blocks are listed with it.
@@ -152,18 +127,18 @@ fn net_before(cursor: &mut Cursor<'_>, names: &NameSet<'_>, word: &[u8], end: &s
 }
 
 /// Reads the numbers of listed blocks, up to an empty line.
-fn read_listed(cursor: &mut Cursor<'_>, listed: &mut Vec<u32>) -> Result<(), AllocError>
-    requires { listed.old.items ≡ [] }
-    ensures read { IfOk result (λ _. AreListedRead cursor.old listed.new.items cursor.new) }
+fn read_listed(alloc: Global, cursor: &mut Cursor<'_>) -> Result<Vec<u32>, AllocError>
+    ensures read { IfOk result (λ listed. AreListedRead cursor.old listed.items cursor.new) }
     ensures shorter { size cursor.new ≤ size cursor.old }
 {
+    let mut listed = Vec::new(alloc);
     cursor.expect(Fault::BadListed);
     while cursor.takes("Block ") {
         let block = read_block(cursor);
         listed.push(block)?;
     }
     cursor.text("\n");
-    Ok(())
+    Ok(listed)
 }
 
 /// Reads the rest of the line of a listed block, and returns its number.
@@ -183,52 +158,33 @@ fn read_block(cursor: &mut Cursor<'_>) -> u32
 }
 
 /// Reads paths, up to an empty line.
-fn read_paths(
-    alloc: Global,
-    cursor: &mut Cursor<'_>,
-    paths: &mut Vec<LaidPath>,
-) -> Result<(), AllocError>
-    requires { paths.old.items ≡ [] }
-    ensures read { IfOk result (λ _. ArePathsRead cursor.old paths.new.items cursor.new) }
+fn read_paths(alloc: Global, cursor: &mut Cursor<'_>) -> Result<Vec<LaidPath>, AllocError>
+    ensures read { IfOk result (λ paths. ArePathsRead cursor.old paths.items cursor.new) }
     ensures shorter { size cursor.new ≤ size cursor.old }
 {
+    let mut paths = Vec::new(alloc);
     while cursor.has_line() {
-        let path = read_path(alloc, cursor)?;
-        paths.push(path)?;
+        let nodes = read_nodes(alloc, cursor)?;
+        paths.push(LaidPath::new(nodes))?;
     }
     cursor.text("\n");
-    Ok(())
+    Ok(paths)
 }
 
 /// Reads the nodes of a path, up to a sink.
-fn read_path(alloc: Global, cursor: &mut Cursor<'_>) -> Result<LaidPath, AllocError>
-    ensures read { IfOk result (λ path. IsPathRead cursor.old path cursor.new) }
+fn read_nodes(alloc: Global, cursor: &mut Cursor<'_>) -> Result<Vec<Node>, AllocError>
+    ensures read { IfOk result (λ nodes. IsPathRead cursor.old nodes.items cursor.new) }
     ensures shorter { size cursor.new ≤ size cursor.old - 1 }
 {
     let mut nodes = Vec::new(alloc);
-    match read_nodes(cursor, &mut nodes) {
-        Ok(()) => Ok(LaidPath::new(nodes)),
-        Err(error) => {
-            drop(nodes);
-            Err(error)
-        }
-    }
-}
-
-/// Reads nodes, up to a sink.
-fn read_nodes(cursor: &mut Cursor<'_>, nodes: &mut Vec<Node>) -> Result<(), AllocError>
-    requires { nodes.old.items ≡ [] }
-    ensures read { IfOk result (λ _. IsPathRead cursor.old nodes.new.items cursor.new) }
-    ensures shorter { size cursor.new ≤ size cursor.old - 1 }
-{
     while cursor.has_line() {
         let node = read_node(cursor);
         nodes.push(node)?;
         if is_sink(node.kind) {
-            return Ok(());
+            return Ok(nodes);
         }
     }
     cursor.takes("\n");
     cursor.fail(Fault::OpenPath);
-    Ok(())
+    Ok(nodes)
 }

@@ -1,8 +1,8 @@
-//! Prints the `.route` text of a layout.
+//! Compares the print of a layout's routes with the `.route` file.
 ghost use Rattle.std.specs.Prelude.{◌≡◌, ◌++◌, ◌∷◌, [], codes, decimal, map};
 ghost use Rattle.std.specs.List.{enumerate_from, flat_map};
-ghost use Rattle.layout_files.specs.Cursors.{left_after};
-ghost use Rattle.layout_files.specs.Printing.{connected_text, heading_text, node_lines, route_headings};
+ghost use Rattle.layout_files.specs.Cursors.{IsSame, left_after};
+ghost use Rattle.layout_files.specs.Printing.{connected_text, node_lines};
 ghost use Rattle.layout_files.specs.Prelude.{between_lines, block_of, laid_name, listed_line, route_text, node_text_of, position_text, line_of, text_of};
 
 use crate::cursor::Cursor;
@@ -11,32 +11,30 @@ use crate::node_words::{is_pad_row, kind_start, number_start};
 use blif::Circuit;
 use grid::{Place, Strip};
 use layouts::{LaidNet, LaidPath, Layout};
+use line_text::TextError;
 use rr_graph::Node;
+use strip_files::{File, FileFault};
 use text_parts::Part;
 
-/// Prints the `.route` text of a layout.
-pub(crate) fn print_route_text(
-    print: &mut Cursor<'_>,
+/// Compares the print of the routes with the `.route` file.
+pub(crate) fn compare_route(
     circuit: &Circuit,
     strip: Strip,
+    text: &[u8],
     layout: &Layout,
-)
-    ensures { print.new ≡ left_after print.old (route_text circuit.now strip layout.now) }
+) -> Result<(), TextError<FileFault>>
+    ensures { IsSame result text.now (route_text circuit.now strip layout.now) }
 {
-    print_headings(print, strip);
-    print_nets(print, circuit, strip, layout)
-}
-
-fn print_headings(print: &mut Cursor<'_>, strip: Strip)
-    ensures { print.new ≡ left_after print.old (text_of (route_headings strip)) }
-{
+    let mut print = Cursor::new(text);
     print.print(&[
         Part::Text("Array size: "),
         Part::Number(strip.width),
         Part::Text(" x "),
         Part::Number(strip.rows),
         Part::Text(" logic blocks.\n\nRouting:\n\n"),
-    ])
+    ]);
+    print_nets(&mut print, circuit, strip, layout);
+    print.outcome(File::Route, text)
 }
 
 /// Prints the nets, with their numbers.
@@ -59,7 +57,12 @@ fn print_net(
 )
     ensures { print.new ≡ left_after print.old (text_of (between_lines circuit.now strip layout.now number net.now net.now.listed)) }
 {
-    print_heading(print, circuit, number, net.net());
+    print.print(&[
+        Part::Text("Net "),
+        Part::Long(number as u64),
+        Part::Text(" ("),
+        Part::Bytes(net_name(circuit, net.net())),
+    ]);
     print_connected(print, circuit, strip, layout, net);
     print.print(&[Part::Text("\n")])
 }
@@ -84,18 +87,6 @@ fn print_connected(
     print_listed(print, circuit, layout, net.listed_blocks());
 }
 
-/// Prints the first line of a net, up to its name.
-fn print_heading(print: &mut Cursor<'_>, circuit: &Circuit, number: usize, net: u32)
-    ensures { print.new ≡ left_after print.old (heading_text circuit.now number net) }
-{
-    print.print(&[
-        Part::Text("Net "),
-        Part::Long(number as u64),
-        Part::Text(" ("),
-        Part::Bytes(net_name(circuit, net)),
-    ])
-}
-
 /// Prints the lines of the listed blocks.
 fn print_listed(print: &mut Cursor<'_>, circuit: &Circuit, layout: &Layout, listed: &[u32])
     ensures { print.new ≡ left_after print.old (text_of (map (λ block. listed_line circuit.now block (block_of layout.now block)) listed.now)) }
@@ -105,45 +96,28 @@ fn print_listed(print: &mut Cursor<'_>, circuit: &Circuit, layout: &Layout, list
     }
 }
 
-/// Prints the line of the listed block of that number.
+/// Prints the line of the listed block of that number. If there is none, it has no name, and is at
+/// place 0.
 fn print_block(print: &mut Cursor<'_>, circuit: &Circuit, layout: &Layout, number: u32)
     ensures { print.new ≡ left_after print.old
         (line_of (listed_line circuit.now number (block_of layout.now number))) }
 {
-    let laid = listed_block(circuit, layout, number);
-    print_listed_line(print, number, laid.name, laid.place)
-}
-
-/// The listed block of that number. If there is none, it has no name, and is at place 0.
-fn listed_block<'c>(circuit: &'c Circuit, layout: &Layout, number: u32) -> Listed<'c>
-    ensures name { result.name.before.now ++ result.name.net.now
-        ≡ laid_name circuit.now (block_of layout.now number) }
-    ensures place { result.place ≡ (block_of layout.now number).place }
-{
     match layout.blocks().get(number as usize) {
-        Some(laid) => Listed {
-            name: laid_name(circuit, laid),
-            place: laid.place(),
-        },
-        None => Listed {
-            name: LaidName {
+        Some(laid) => print_listed_line(print, number, laid_name(circuit, laid), laid.place()),
+        None => print_listed_line(
+            print,
+            number,
+            LaidName {
                 before: &[],
                 net: &[],
             },
-            place: Place {
+            Place {
                 x: 0,
                 y: 0,
                 subblock: 0,
             },
-        },
+        ),
     }
-}
-
-/// The name and the place of a listed block.
-#[derive(Clone, Copy)]
-struct Listed<'c> {
-    name: LaidName<'c>,
-    place: Place,
 }
 
 /// Prints the line of a listed block of that name at a place.

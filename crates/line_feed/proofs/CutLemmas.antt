@@ -30,6 +30,11 @@ cut_more n line more =
       | false ↦ λ e. more_fit n line more (grind (arith, nat_tests, e))
     ] refl
 
+-- the first bytes are what is kept
+pub kept_part : (line part : List ℕ) → part ≡ take 1048640 line → part ≡ kept_of line
+unfolding kept_of
+kept_part line part is = is
+
 -- what is kept of a line that has more bytes
 pub kept_more : (kept line more : List ℕ) → kept ≡ kept_of line → kept ++ take (1048640 - length kept) more ≡ kept_of (line ++ more)
 unfolding kept_of

@@ -1,6 +1,6 @@
 //! A line that is being read.
 ghost use Rattle.std.specs.Prelude.{◌≡◌, ◌++◌, [], ℕ, List, IfOk, take};
-ghost use Rattle.line_feed.specs.Pieces.{IsKept};
+ghost use Rattle.line_feed.specs.Pieces.{IsKept, kept_of};
 
 use std::alloc::{AllocError, Global};
 use std::marker::Model;
@@ -36,6 +36,13 @@ fn first_bytes(bytes: &[u8], count: usize) -> &[u8]
     } else {
         bytes
     }
+}
+
+/// What is kept of a line.
+pub fn kept_bytes(line: &[u8]) -> &[u8]
+    ensures { result.now ≡ kept_of line.now }
+{
+    first_bytes(line, MAX_FED_LINE)
 }
 
 impl FedLine {

@@ -9,5 +9,5 @@ mod ahead;
 mod fed_line;
 mod feed;
 
-pub use fed_line::MAX_FED_LINE;
+pub use fed_line::{MAX_FED_LINE, kept_bytes};
 pub use feed::LineFeed;

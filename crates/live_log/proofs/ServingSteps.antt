@@ -43,10 +43,6 @@ pub few_if : {S : Type 0} (answers : S → ℕ → List ℕ → List ℕ → S �
 few_if answers now new number next rest after log true line s few less = let e : next ≡ number + 1 = s.0 in omega arith
 few_if answers now new number next rest after log false line s few less = let e : next ≡ number = s.0 in omega arith
 
-pub kept_part : (line part : List ℕ) → part ≡ take 1048640 line → part ≡ kept_of line
-unfolding kept_of
-kept_part line part is = is
-
 -- the lines that are kept before and after a line
 pub counted_if : {S : Type 0} (answers : S → ℕ → List ℕ → List ℕ → S → Type 0) (now new : S) (number next : ℕ) (kept : Bool) (marks others : List Bool) (line : List ℕ) (lines rest : List (List ℕ)) (all : ℕ) →
     ServesIf answers now number kept line new next → marks ≡ kept ∷ others → lines ≡ line ∷ rest → number + length (lines_kept marks lines) ≡ all → next + length (lines_kept others rest) ≡ all

@@ -18,9 +18,7 @@ pub(crate) fn last_tags(alloc: Global, log: &[u8]) -> Result<Vec<&[u8]>, AllocEr
 {
     let mut all = named_tags(alloc, log)?;
     all.reverse();
-    let tags = newest_of(alloc, all.as_slice());
-    drop(all);
-    let mut tags = tags?;
+    let mut tags = newest_of(alloc, all.as_slice())?;
     tags.reverse();
     Ok(tags)
 }

@@ -60,21 +60,15 @@ impl Marks {
         Ok(())
     }
 
-    /// A new group in that one, whose lines are kept for now.
-    pub(crate) fn begin_in(&mut self, around: usize) -> Result<usize, AllocError>
-        ensures { self.new.lines ≡ self.old.lines }
-    {
-        self.begin_group(Some(around))
-    }
-
     /// A new group, whose lines are kept for now.
     pub(crate) fn begin(&mut self) -> Result<usize, AllocError>
         ensures { self.new.lines ≡ self.old.lines }
     {
-        self.begin_group(None)
+        self.begin_in(None)
     }
 
-    fn begin_group(&mut self, around: Option<usize>) -> Result<usize, AllocError>
+    /// A new group, in another one if that is given, whose lines are kept for now.
+    pub(crate) fn begin_in(&mut self, around: Option<usize>) -> Result<usize, AllocError>
         ensures { self.new.lines ≡ self.old.lines }
     {
         let group = self.groups.len();
@@ -121,28 +115,12 @@ impl Marks {
             let Some(group) = around else {
                 return true;
             };
-            if !self.stands(group) {
-                return false;
+            match self.groups.get(group) {
+                Some(group) if group.stands => around = group.around,
+                _ => return false,
             }
-            around = self.around(group);
         }
         true
-    }
-
-    /// Whether the lines of a group are kept, if those of the group around it are.
-    fn stands(&self, group: usize) -> bool {
-        match self.groups.get(group) {
-            Some(group) => group.stands,
-            None => false,
-        }
-    }
-
-    /// The group around a group.
-    fn around(&self, group: usize) -> Option<usize> {
-        match self.groups.get(group) {
-            Some(group) => group.around,
-            None => None,
-        }
     }
 
     /// For each line, whether it is kept.

@@ -6,7 +6,7 @@ ghost use Rattle.live_log.specs.Kept.{lines_kept, last_line, lines_in};
 
 use crate::last_tags::LAST;
 use crate::short_log::ShortLog;
-use line_feed::MAX_FED_LINE;
+use line_feed::kept_bytes;
 use line_service::Answers;
 use line_text::split_line;
 use std::alloc::{AllocError, Global};
@@ -68,8 +68,7 @@ fn serve_if<A: Answers>(
     if !kept {
         return Ok(number);
     }
-    let reply = service.answer(number + 1, kept_bytes(line))?;
-    drop(reply);
+    drop(service.answer(number + 1, kept_bytes(line))?);
     Ok(number + 1)
 }
 
@@ -107,8 +106,7 @@ fn serve_comment<A: Answers>(
         (kept_of (last_line tag.now)) reply service.new) }
 {
     let line = comment_of(alloc, tag)?;
-    let reply = service.answer(number, kept_bytes(line.as_slice()))?;
-    drop(reply);
+    drop(service.answer(number, kept_bytes(line.as_slice()))?);
     Ok(())
 }
 
@@ -120,22 +118,4 @@ fn comment_of(alloc: Global, tag: &[u8]) -> Result<Vec<u8>, AllocError>
     line.extend_from_slice(LAST)?;
     line.extend_from_slice(tag)?;
     Ok(line)
-}
-
-/// The bytes of a line that are kept and answered.
-pub(crate) fn kept_bytes(line: &[u8]) -> &[u8]
-    ensures { result.now ≡ kept_of line.now }
-{
-    first_bytes(line, MAX_FED_LINE)
-}
-
-/// The first bytes, at most that many.
-fn first_bytes(bytes: &[u8], count: usize) -> &[u8]
-    ensures { result.now ≡ take count bytes.now }
-{
-    if count < bytes.len() {
-        &bytes[..count]
-    } else {
-        bytes
-    }
 }

@@ -24,13 +24,9 @@ impl<'l> ShortLog<'l> {
         ensures log { IfOk result (λ whole. whole.log.now ≡ self.entry.log.now) }
         ensures lines { IfOk result (λ whole. lines_in whole ≡ physical_lines self.entry.log.now) }
     {
-        let ShortLog { log, kept, last } = self;
-        let count = kept.len();
-        drop(kept);
-        drop(last);
         Ok(ShortLog {
-            log,
-            kept: Vec::from_elem(alloc, true, count)?,
+            log: self.log,
+            kept: Vec::from_elem(alloc, true, self.kept.len())?,
             last: Vec::new(alloc),
         })
     }

@@ -36,7 +36,7 @@ pub(crate) fn note_done(marks: &mut Marks, who: &mut Who, reply: &[u8]) -> Resul
 fn begin_packing(marks: &mut Marks, who: &mut Who) -> Result<Mark, AllocError>
     ensures { marks.new.lines ≡ marks.old.lines }
 {
-    let group = marks.begin_in(who.netlist())?;
+    let group = marks.begin_in(Some(who.netlist()))?;
     who.work = Work {
         netlist: who.work.netlist,
         packing: Some(group),
@@ -53,7 +53,7 @@ fn begin_layout(marks: &mut Marks, who: &mut Who) -> Result<Mark, AllocError>
     if !who.is_taken {
         drop_part(marks, who.work.layout);
     }
-    let group = marks.begin_in(who.packing())?;
+    let group = marks.begin_in(Some(who.packing()))?;
     who.work.layout = Some(group);
     who.work.routing = None;
     Ok(Mark::Within(group))
@@ -63,7 +63,7 @@ fn begin_layout(marks: &mut Marks, who: &mut Who) -> Result<Mark, AllocError>
 fn begin_routing(marks: &mut Marks, who: &mut Who) -> Result<Mark, AllocError>
     ensures { marks.new.lines ≡ marks.old.lines }
 {
-    let group = marks.begin_in(who.layout())?;
+    let group = marks.begin_in(Some(who.layout()))?;
     who.work.routing = Some(group);
     Ok(Mark::Within(group))
 }
@@ -75,17 +75,11 @@ fn give_up(marks: &mut Marks, who: &mut Who, state: &[u8]) -> Mark
 {
     let last = who.innermost();
     let part = if is_word(state, "Loaded") {
-        let packing = who.work.packing;
-        who.work.packing = None;
-        packing
+        who.work.packing.take()
     } else if is_word(state, "Packed") {
-        let layout = who.work.layout;
-        who.work.layout = None;
-        layout
+        who.work.layout.take()
     } else if is_word(state, "Placed") {
-        let routing = who.work.routing;
-        who.work.routing = None;
-        routing
+        who.work.routing.take()
     } else {
         None
     };
@@ -113,7 +107,7 @@ pub(crate) fn note_netlist(marks: &mut Marks, who: &mut Who) -> Result<usize, Al
     if !who.is_taken {
         drop_before_change(marks, who.work);
     }
-    let group = marks.begin_in(who.life)?;
+    let group = marks.begin_in(Some(who.life))?;
     who.work = Work {
         netlist: Some(group),
         packing: None,

@@ -127,7 +127,8 @@ pub(crate) fn form_of(line: &[u8]) -> LineForm
     line_form(without_cr(rest))
 }
 
-fn is_wait(form: LineForm) -> bool
+/// Whether it is a `wait`.
+pub(crate) fn is_wait(form: LineForm) -> bool
     ensures { result ≡ is_wait form }
 {
     matches!(form, LineForm::Asks(SessionLine::Wait))

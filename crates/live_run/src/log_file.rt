@@ -105,9 +105,6 @@ impl<H: Files> LogFile for StoredLog<'_, '_, H> {
         let Ok(handle) = self.file.try_clone() else {
             return Err(Failed);
         };
-        let mut log = FileLog::new(handle);
-        let kept = log.keep(bytes);
-        drop(log);
-        kept
+        FileLog::new(handle).keep(bytes)
     }
 }

@@ -31,36 +31,20 @@ where
     ensures { RunsLine line.now (⟦<Connection<R, W, FileLog<H::File>> as Dialogue>⟧.view connection.old)
         (⟦<Connection<R, W, FileLog<H::File>> as Dialogue>⟧.view connection.new) result }
 {
-    match read_architecture(rt, line.arch) {
-        Ok(text) => run_over(rt, line, text.as_slice(), connection),
-        Err(ReadError::Failed) => Outcome::ArchUnreadable,
-        Err(ReadError::NoMemory) => Outcome::NoMemory,
-    }
-}
-
-/// Serves over that architecture, with a log if the command line names one.
-fn run_over<H: Files + Wait + AllocGlobal + Eprint, R: Source + Drop, W: Sink + Drop>(
-    rt: &H,
-    line: &CommandLine<'_>,
-    architecture: &[u8],
-    connection: &mut Connection<R, W, FileLog<H::File>>,
-) -> Outcome
-where
-    H::File: LockLog,
-    requires { (⟦<Connection<R, W, FileLog<H::File>> as Dialogue>⟧.view connection.old).has_log
-        ≡ false }
-    ensures { RunsLine line.now (⟦<Connection<R, W, FileLog<H::File>> as Dialogue>⟧.view connection.old)
-        (⟦<Connection<R, W, FileLog<H::File>> as Dialogue>⟧.view connection.new) result }
-{
+    let text = match read_architecture(rt, line.arch) {
+        Ok(text) => text,
+        Err(ReadError::Failed) => return Outcome::ArchUnreadable,
+        Err(ReadError::NoMemory) => return Outcome::NoMemory,
+    };
     match line.log {
         None => {
             let none: Option<LogLines<'_, H, H::File>> = None;
-            serve(rt, line, architecture, none, connection)
+            serve(rt, line, text.as_slice(), none, connection)
         }
-        Some(path) => match log_at(rt, line, path, architecture) {
+        Some(path) => match log_at(rt, line, path, text.as_slice()) {
             Ok(KeptLog { past, log }) => {
                 connection.keep_on(log);
-                serve(rt, line, architecture, Some(past), connection)
+                serve(rt, line, text.as_slice(), Some(past), connection)
             }
             Err(outcome) => outcome,
         },

@@ -23,9 +23,7 @@ const TOLD_TWICE: &str = "--follow and --told N exclude each other";
 /// request for help is one.
 pub fn read_options<'a, S: AsStr>(alloc: Global, words: &'a [S]) -> Result<CommandLine<'a>, Error> {
     let given = read_words(alloc, &PROGRAM, words)?;
-    let line = CommandLine::of(&given);
-    drop(given);
-    match line {
+    match CommandLine::of(&given) {
         Ok(line) => Ok(line),
         Err(why) => Err(refusal(alloc, &PROGRAM, words, why)),
     }

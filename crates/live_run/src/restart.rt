@@ -34,9 +34,7 @@ pub(crate) fn restart<L: LogFile>(
 {
     let whole = length_to_keep(alloc, file, first_line)?;
     let added = line_to_add(alloc, file, whole, first_line)?;
-    let past = leave(file, whole, added.as_slice());
-    drop(added);
-    past
+    leave(file, whole, added.as_slice())
 }
 
 /// The length of a log's whole lines, the first of which must be that line. A file that is shorter
@@ -54,7 +52,6 @@ pub(crate) fn length_to_keep<L: LogFile>(
 {
     let head = first_bytes(alloc, file, first_line.len() as u64)?;
     let is_log = first_line.starts_with(head.as_slice());
-    drop(head);
     if !is_log {
         let difference = difference_of(alloc, file, first_line)?;
         return Err(Outcome::LogDiffers(difference));
@@ -102,9 +99,7 @@ fn difference_of<L: LogFile>(
     ensures err { IfErr result IsUnread }
 {
     let head = first_bytes(alloc, file, MAX_FIRST)?;
-    let difference = LogDifference::of(first_line, head.as_slice());
-    drop(head);
-    Ok(difference)
+    Ok(LogDifference::of(first_line, head.as_slice()))
 }
 
 /// The line that is added to a log whose whole lines have `whole` bytes. Checks the sums that they

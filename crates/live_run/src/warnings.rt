@@ -86,7 +86,6 @@ impl Warnings {
         for tenant in tenants.as_slice() {
             self.look_at(rt, core, *tenant);
         }
-        drop(tenants);
         for place in self.admitted..admitted {
             self.look_at(rt, core, new_tenant(place + 1));
         }

@@ -41,9 +41,8 @@ impl<'h, 'g, H: Eprint + AllocGlobal> Watched<'h, 'g, H> {
         let Watched {
             rt: _,
             lines,
-            warnings,
+            warnings: _,
         } = self;
-        drop(warnings);
         lines.close();
     }
 }

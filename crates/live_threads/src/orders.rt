@@ -16,10 +16,7 @@ impl Waiting {
     pub(crate) fn put(&mut self, order: Order) -> Result<(), AllocError> {
         match self.orders.push_back(order) {
             Ok(()) => Ok(()),
-            Err(failed) => {
-                drop(failed);
-                Err(AllocError)
-            }
+            Err(_) => Err(AllocError),
         }
     }
 }

@@ -61,18 +61,13 @@ pub(crate) fn serve_with_workers<
         ready: line.ready,
         text_limit: line.options.text_limit(),
     };
-    let end = match RingBuffer::new(rt.alloc(), MOST_AHEAD) {
+    match RingBuffer::new(rt.alloc(), MOST_AHEAD) {
         Ok((producer, consumer)) => {
             let input = InputLines { producer, reader };
             run_threads(site, line.workers, opened, consumer, input)
         }
-        Err(_) => {
-            drop((opened, reader));
-            RunEnd::not_begun(Outcome::NoMemory)
-        }
-    };
-    drop(crew);
-    end
+        Err(_) => RunEnd::not_begun(Outcome::NoMemory),
+    }
 }
 
 impl<W: Sink + Drop, L: Log + Drop> RunEnd<W, L> {
@@ -161,7 +156,6 @@ fn run_in<
         (option_map (view_of W.contents W.has_failed L.kept L.has_failed) result.devices) result.outcome }
 {
     if !start_workers(scope, site, workers) {
-        drop((opened, lines, input));
         site.crew.close(site.rt);
         return RunEnd::not_begun(Outcome::NoMemory);
     }
@@ -180,8 +174,7 @@ fn run_in<
             let read = read_lines(site.rt, site.crew, producer, reader);
             end_of(read, server.join(site.rt))
         }
-        Err(error) => {
-            drop((error, input));
+        Err(_) => {
             site.crew.close(site.rt);
             RunEnd::not_begun(Outcome::NoMemory)
         }
@@ -198,16 +191,12 @@ fn end_of<W: Sink + Drop, L: Log + Drop>(read: ReaderEnd, served: ServerEnd<W, L
         (received served.lines) read.end served.outcome }
     ensures other { (result.outcome ≡ served.outcome) ⊎ (result.outcome ≡ Stopped Input) }
 {
-    let ReaderEnd {
-        lines: producer,
-        end,
-    } = read;
     let ServerEnd {
         lines: consumer,
         devices,
         outcome,
     } = served;
-    let are_all = are_taken(consumer, producer) && end == Some(InputEnd::Done);
+    let are_all = are_taken(consumer, read.lines) && read.end == Some(InputEnd::Done);
     let outcome = if are_all || outcome != Outcome::Done {
         outcome
     } else {
@@ -228,7 +217,6 @@ fn are_taken(consumer: Consumer<Vec<u8>>, producer: Producer<Vec<u8>>) -> bool
     let mut consumer = consumer;
     let mut producer = producer;
     let left = consumer.slots_beside(&mut producer);
-    drop((producer, consumer));
     left == 0
 }
 
@@ -239,12 +227,11 @@ fn start_workers<'s, E, H: Threads + Wait + Clock + Sync + 's>(
     count: u32,
 ) -> bool {
     for _ in 0..count {
-        match scope.spawn(move || run_worker(site.rt, site.crew, site.graph)) {
-            Ok(worker) => drop(worker),
-            Err(error) => {
-                drop(error);
-                return false;
-            }
+        if scope
+            .spawn(move || run_worker(site.rt, site.crew, site.graph))
+            .is_err()
+        {
+            return false;
         }
     }
     true

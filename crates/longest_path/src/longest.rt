@@ -46,11 +46,7 @@ pub fn longest_path(alloc: Global, circuit: &Circuit) -> Result<Longest, AllocEr
     let nets = circuit.nets.len();
     let found = longest_ways(alloc, nets, &starts, &circuit.tables)?;
     match found {
-        Some(reach) => {
-            let longest = longest_in(alloc, &reach, &circuit.tables, &ends);
-            drop(reach);
-            longest
-        }
+        Some(reach) => longest_in(alloc, &reach, &circuit.tables, &ends),
         None => unreachable!(),
     }
 }
@@ -88,10 +84,7 @@ fn has_loop(alloc: Global, circuit: &Circuit) -> Result<bool, AllocError>
     }
     let found = longest_ways(alloc, nets, &starts, &circuit.tables)?;
     match found {
-        Some(reach) => {
-            drop(reach);
-            Ok(false)
-        }
+        Some(_reach) => Ok(false),
         None => Ok(true),
     }
 }

@@ -1,8 +1,6 @@
 -- The reply to each command of a run, and the state after it.
-use Rattle.one_user.proofs.Prelude.{ℕ, ◌≡◌, ◌+◌, ◌<◌, ◌≤◌, true, false, List, [], Result, Ok, Option, Some, None, arith, nat_lt, Arch, circuit_of, Circuit, BlifFault, packed_of, unfit_of, fit_of, Strip, end_value, Placing as PlacingJob, failure_of, State, answer_to, state_at_end, with_netlist, misfit_of, pack_unless, routed_unless, start, with_circuit, SlotState, after_event, Upload, Pack, Route, Command as Asked, RoutingFailure, Misfit, Refusal, Reply, Accepted, Empty, Loaded, Packing, Packed, Placed, Routing, Unrouted, Task, outcome_of, IsLoaded, IsPacked, IsPlaced, refusal_in, slot_in, state_at, FlowOutcome, Refused}
-use Rattle.job_state.specs.declared.sources.JobKind.TheVariants.{Packing as PackingJob, Routing as RoutingJob}
+use Rattle.one_user.proofs.Prelude.{ℕ, ◌≡◌, ◌+◌, ◌<◌, false, Result, Ok, Option, Some, None, arith, nat_lt, circuit_of, Circuit, BlifFault, packed_of, unfit_of, fit_of, State, answer_to, with_netlist, misfit_of, pack_unless, start, with_circuit, SlotState, after_event, Pack, Route, Command as Asked, Misfit, Refusal, Reply, Accepted, Loaded, Packing, Packed, Placed, Routing, Task, outcome_of, IsPacked, IsPlaced, refusal_in, slot_in, state_at, Refused, Placing}
 use Rattle.tenant_slot.specs.declared.command.Command.TheVariants.{Place}
-use Rattle.tenant_slot.specs.declared.reply.StateName.TheVariants.{Placing, Routed}
 
 -- the result of a command: it is refused, and so is the netlist; or the state after it is the next
 -- stage's
@@ -14,11 +12,6 @@ module _ (task : Task) (id generation entries : ℕ) (room : entries < 65536) wh
   -- the upload
   abbrev pub load : Result Circuit BlifFault → Option State × Reply
   load said = with_circuit said (λ circuit. (Some (with_netlist (start task.arch task.strip) task.text), Accepted Loaded))
-
-  pub loads : (said : Result Circuit BlifFault) → circuit_of task.text task.arch.lut_size ≡ said → (slot : SlotState) (refusal : Option Refusal) →
-      refusal ≡ refusal_in (answer_to (start task.arch task.strip) (Asked (Upload task.text))).1 → slot ≡ after_event (slot_in id (start task.arch task.strip)) (Asked (Upload task.text)) →
-      Leads task IsLoaded (state_at task Loaded 0 0 0 1) slot refusal
-  loads said h1 slot refusal is after_it = grind arith
 
   -- the packing
   abbrev pub pack : Result Circuit BlifFault → Option State × Reply

@@ -1,8 +1,8 @@
 -- The state in which each stage of a run hands on to the next.
-use Rattle.one_user.proofs.Prelude.{ℕ, ◌≡◌, ◌+◌, ◌<◌, ◌≤◌, Bool, true, false, List, [], Ok, Option, Some, None, refl, ap, subst, ◌∙◌, arith, is_some, option_map, ◌&&◌, end_value, is_last, packing_sources, step_count, Progress, JobKind, Placing as PlacingJob, failure_of, answer_to, state_at_end, routed_unless, kind_that_runs, start, SlotState, after_event, is_takeable, Upload, Pack, Route, Command as Asked, RoutingFailure, Refusal, StateName, Loaded, Packing, Packed, Placed, Routing, HasCounts, IsWhole, Task, routing_of, AreCounts, Finishes, IsAt, IsLoaded, IsPacked, IsPlaced, refusal_in, slot_in, state_at, task_in, PackedCounts, StepMade}
+use Rattle.one_user.proofs.Prelude.{ℕ, ◌≡◌, ◌+◌, ◌<◌, ◌≤◌, Bool, true, false, List, [], Ok, Option, Some, None, refl, ap, subst, ◌∙◌, arith, is_some, option_map, ◌&&◌, end_value, is_last, packing_sources, step_count, Progress, JobKind, failure_of, answer_to, state_at_end, routed_unless, kind_that_runs, start, SlotState, after_event, is_takeable, Upload, Pack, Route, Command as Asked, RoutingFailure, Refusal, StateName, Loaded, Packing, Packed, Placed, Routing, HasCounts, IsWhole, Task, routing_of, AreCounts, Finishes, IsAt, IsLoaded, IsPacked, IsPlaced, refusal_in, slot_in, state_at, task_in, PackedCounts, StepMade, Placing}
+use Rattle.job_state.specs.declared.sources.JobKind.TheVariants.{Placing as PlacingJob}
 use Rattle.job_state.specs.declared.sources.JobKind.TheVariants.{Packing as PackingJob, Routing as RoutingJob}
 use Rattle.tenant_slot.specs.declared.command.Command.TheVariants.{Place}
-use Rattle.tenant_slot.specs.declared.reply.StateName.TheVariants.{Placing}
 use Rattle.one_user.proofs.Asking.{Leads}
 use Rattle.one_user.proofs.Routings.{after_end}
 use Rattle.one_user.proofs.Packings.{packing_told}

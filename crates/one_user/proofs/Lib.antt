@@ -16,7 +16,6 @@ mod Tries
 mod OtherTracks
 mod Told
 mod LastPass
-mod Placings
 mod Bases
 mod TooFew
 mod PinnedRuns

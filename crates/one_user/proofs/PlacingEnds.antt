@@ -1,5 +1,6 @@
 -- What a placing has made at its end.
-use Rattle.one_user.proofs.Prelude.{ℕ, ◌≡◌, true, Result, Ok, refl, ap, ◌∙◌, arith, circuit_of, Circuit, BlifFault, end_value, is_last, is_whole_value, job_value, pass_count, placing_at, step_count, value_of, Placing as PlacingJob, placing_whole, step_count_is, is_past_last, Task, placing_of, AreAllPasses}
+use Rattle.one_user.proofs.Prelude.{ℕ, ◌≡◌, true, Result, Ok, refl, ap, ◌∙◌, arith, circuit_of, Circuit, BlifFault, end_value, is_last, is_whole_value, job_value, pass_count, placing_at, step_count, value_of, placing_whole, step_count_is, is_past_last, Task, placing_of, AreAllPasses}
+use Rattle.job_state.specs.declared.sources.JobKind.TheVariants.{Placing as PlacingJob}
 use Rattle.job_state.specs.declared.work.Work.TheVariants.{Placed}
 
 module _ (task : Task) (circuit : Circuit) (said : circuit_of task.text task.arch.lut_size ≡ Ok circuit) where

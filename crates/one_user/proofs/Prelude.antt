@@ -30,7 +30,6 @@ unfoldable pub use Rattle.job_state.specs.JobValue.{nets_in, pads_in, step_count
 pub use Rattle.job_state.specs.RoutedSet.{held_at_end}
 unfoldable pub use Rattle.job_state.specs.RoutedSet.{resources_of}
 pub use Rattle.job_state.specs.Steps.{kind_of}
-pub use Rattle.job_state.specs.declared.sources.JobKind.TheVariants.{Placing}
 pub use Rattle.job_state.specs.declared.step.JobStep.{JobStep}
 pub use Rattle.line_text.proofs.WritingLemmas.{all_loop, all_same, part_first, part_loop, part_same, part_then, writes_part, writes_same, writes_then}
 pub use Rattle.line_text.specs.Lines.{JoinedLine, lines_of}
@@ -43,11 +42,11 @@ pub use Rattle.one_user.specs.Crowding.{AreCrowdedNodes, AreMostOverused, ComesB
 pub use Rattle.one_user.specs.CrowdingText.{crowded_line, net_word}
 pub use Rattle.one_user.specs.Figures.{HasFigures, product, wires_there}
 pub use Rattle.one_user.specs.Lines.{fullest_line}
-pub use Rattle.one_user.specs.Outcomes.{Task, by_fit, by_netlist, by_packing, by_routing, files_of, left_of, outcome_of, placing_of, routing_of}
+pub use Rattle.one_user.specs.Outcomes.{Task, by_routing, files_of, left_of, outcome_of, placing_of, routing_of}
 pub use Rattle.one_user.specs.Pinned.{AreTooFewBelow, IsLeftWith, IsPinnedWith, IsTryOn, IsWholeRun}
 pub use Rattle.one_user.specs.PlacedRuns.{AreFiguresWith, EndsWith, IsRunOn, IsRunWith, counts_in, files_with, nets_on_device, routed_with}
-pub use Rattle.one_user.specs.Placing.{AreAllPasses, IsPackedFrom, IsPlacedFrom, IsPlacing, IsPlacingOf, placed_from}
-pub use Rattle.one_user.specs.Prelude.{Accepted, Advanced, Arch, ArchFault, ArePlaced, BadBlif, Basis, BlifFault, CannotPack, Circuit, Command, Ending, File, Finished, IsAfter, IsArch, IsBusiest, IsStripSize, IsWithin, IterEnd, JobKind, Loaded, MAX_PASSES, MAX_TRACKS, Misfit, More, Net, Node, PackedCircuit, Place, PlaceFile, Placed, PlacingUnderWay, Progress, Refusal, Reply, RouteFile, RoutedCircuit, RoutingFailure, RoutingState, SlotState, Sources, State, StateName, Status, Step, StepReply, Strip, Work, Writes, after_event, answer_to, block_nets, circuit_in, circuit_of, count_over, device_strip, end_value, failure_of, graph_of, has, has_node, held_by, is_last, is_past_last, job_value, kind_that_runs, misfit_of, overuse_at, pads_of, pass_count, pins_read, place_file_of, places_by_block, placing_at, route_file_of, sources_of, start, state_at_end, wiring_of}
+pub use Rattle.one_user.specs.Placing.{AreAllPasses, IsPlacing}
+pub use Rattle.one_user.specs.Prelude.{Accepted, Advanced, Arch, ArchFault, ArePlaced, Basis, BlifFault, Circuit, Command, Ending, File, Finished, IsAfter, IsArch, IsBusiest, IsStripSize, IsWithin, IterEnd, JobKind, Loaded, MAX_PASSES, MAX_TRACKS, Misfit, More, Net, Node, PackedCircuit, Place, PlaceFile, Placed, PlacingUnderWay, Progress, Refusal, Reply, RouteFile, RoutedCircuit, RoutingFailure, RoutingState, SlotState, Sources, State, StateName, Status, Step, StepReply, Strip, Work, Writes, after_event, answer_to, block_nets, circuit_in, circuit_of, count_over, device_strip, end_value, failure_of, graph_of, has, has_node, held_by, is_last, is_past_last, job_value, kind_that_runs, misfit_of, overuse_at, pads_of, pass_count, pins_read, place_file_of, places_by_block, placing_at, route_file_of, sources_of, start, state_at_end, wiring_of}
 pub use Rattle.one_user.specs.RoutingEnds.{IsLastIteration, IsRoutes, IsRoutingEnd}
 pub use Rattle.one_user.specs.Service.{AreTold, HasRouted}
 pub use Rattle.one_user.specs.Steps.{Finishes, Goes, IsAt, IsLeft, IsLoaded, IsPacked, IsPlaced, IsTold, MakesStep, device_of, ending_in, refusal_in, slot_in, state_at, task_in, text_in}
@@ -61,9 +60,8 @@ pub use Rattle.one_user.specs.declared.least.DevicePlan.{DevicePlan}
 pub use Rattle.one_user.specs.declared.least.FirstTry.{FirstTry}
 pub use Rattle.one_user.specs.declared.outcome.Files.{Files}
 pub use Rattle.one_user.specs.declared.outcome.FlowOutcome.{FlowOutcome}
-pub use Rattle.one_user.specs.declared.outcome.FlowOutcome.TheVariants.{Refused}
+pub use Rattle.one_user.specs.declared.outcome.FlowOutcome.TheVariants.{Refused, Unrouted}
 pub use Rattle.one_user.specs.declared.outcome.Run.{Run}
-pub use Rattle.one_user.specs.declared.placing.PlacingEnd.{PlacingEnd}
 pub use Rattle.one_user.specs.declared.routing_end.LastIteration.{LastIteration}
 pub use Rattle.one_user.specs.declared.steps.StepMade.{StepMade}
 pub use Rattle.pathfinder.proofs.Overuses.{count_same, counts_none, counts_one, long_after}
@@ -84,7 +82,7 @@ pub use Rattle.tenant_slot.specs.Slot.{IsAdvanceOf, is_takeable, next_job, runni
 pub use Rattle.tenant_slot.specs.declared.command.Command.TheVariants.{Pack, Route, Upload}
 pub use Rattle.tenant_slot.specs.declared.event.Advance.{Advance}
 pub use Rattle.tenant_slot.specs.declared.event.Event.{Event}
-pub use Rattle.tenant_slot.specs.declared.reply.StateName.TheVariants.{Empty, Packed, Packing, Routing, Unrouted}
+pub use Rattle.tenant_slot.specs.declared.reply.StateName.TheVariants.{Packed, Packing, Placing, Routing}
 pub use Rattle.track_bound.specs.Crossings.{crossing_count}
 unfoldable pub use Rattle.vpr_files.specs.NetFile.{net_text_of}
 unfoldable pub use Rattle.vpr_files.specs.PlaceFile.{place_text_of}

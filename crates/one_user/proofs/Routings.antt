@@ -1,11 +1,12 @@
 -- How a routing ends, and the reply to that.
-use Rattle.one_user.proofs.Prelude.{ℕ, ◌≡◌, ◌+◌, true, List, [], Result, Ok, Option, Some, None, refl, sym, ap, subst, arith, IsSome, is_some, option_and_then, resources_of, ResourceUse, routed_set, circuit_of, Circuit, BlifFault, packed_of, end_value, failure_of, place_file_of, route_file_of, State, answer_to, circuit_in, routed_unless, with_circuit, PlaceFile, RouteFile, Command as Asked, RoutingFailure, Ending, File, Routing, Unrouted as UnroutedName, net_text_of, Task, by_routing, files_of, outcome_of, placing_of, routing_of, AreTold, HasRouted, IsLeft, IsLoaded, IsPlaced, slot_in, state_at, task_in, text_in, Files, FlowOutcome, Refused}
+use Rattle.one_user.proofs.Prelude.{ℕ, ◌≡◌, ◌+◌, true, List, [], Result, Ok, Option, Some, None, refl, sym, ap, subst, arith, IsSome, is_some, option_and_then, resources_of, ResourceUse, routed_set, circuit_of, Circuit, BlifFault, packed_of, end_value, failure_of, place_file_of, route_file_of, State, answer_to, circuit_in, routed_unless, with_circuit, PlaceFile, RouteFile, Command as Asked, RoutingFailure, Ending, File, Routing, net_text_of, Task, by_routing, files_of, outcome_of, placing_of, routing_of, AreTold, HasRouted, IsLeft, IsLoaded, IsPlaced, slot_in, state_at, task_in, text_in, Files, FlowOutcome, Refused, Unrouted}
+use Rattle.tenant_slot.specs.declared.reply.StateName.TheVariants.{Unrouted as UnroutedName}
 use Rattle.std.specs.Prelude.{IfOk}
 use Rattle.tenant_slot.specs.declared.command.Command.TheVariants.{Net}
 use Rattle.tenant_slot.specs.declared.reply.FileKind.TheVariants.{Net as NetFile, Place as PlacesFile, Route as RoutesFile}
 use Rattle.tenant_slot.specs.declared.reply.StateName.TheVariants.{Routed as RoutedName}
 use Rattle.one_user.specs.declared.outcome.Unrouted.{Unrouted as Left}
-use Rattle.one_user.specs.declared.outcome.FlowOutcome.TheVariants.{Routed, Unrouted}
+use Rattle.one_user.specs.declared.outcome.FlowOutcome.TheVariants.{Routed}
 
 -- the outcome of a placed netlist, by how its routing ends
 pub outcome_is : (task : Task) (placed : IsPlaced task) (failure : Option RoutingFailure) → failure_of (end_value (routing_of task)) ≡ failure → outcome_of task ≡ by_routing task placed.circuit failure

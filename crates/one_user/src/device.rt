@@ -84,11 +84,7 @@ impl OwnDevice {
                 strip,
                 graph,
             }),
-            Err(failed) => {
-                drop(failed);
-                drop(graph);
-                Err(AllocError)
-            }
+            Err(_) => Err(AllocError),
         }
     }
 
@@ -108,9 +104,7 @@ impl OwnDevice {
         };
         let arch = self.arch.clone()?;
         let mut slot = Slot::new(self.alloc, 1, arch, self.strip);
-        let run = upload(&mut slot, &window, request, teller);
-        drop(slot);
-        run
+        upload(&mut slot, &window, request, teller)
     }
 
     /// Packs a netlist, and returns its counts or why it is refused. It writes one line for each
@@ -129,9 +123,7 @@ impl OwnDevice {
         };
         let arch = self.arch.clone()?;
         let mut slot = Slot::new(self.alloc, 1, arch, self.strip);
-        let counted = count(&mut slot, &window, request, teller);
-        drop(slot);
-        counted
+        count(&mut slot, &window, request, teller)
     }
 
     /// Packs and places a netlist, or returns why it is refused. Fails with [`AllocError`] if
@@ -163,15 +155,8 @@ impl OwnDevice {
     {
         let LastIteration { end, number } = self.route(placing)?;
         match end {
-            IterEnd::Done(routes) => {
-                let run = self.run_by(placing, &routes, number);
-                drop(routes);
-                Ok(Some(run?))
-            }
-            end => {
-                drop(end);
-                Ok(None)
-            }
+            IterEnd::Done(routes) => Ok(Some(self.run_by(placing, &routes, number)?)),
+            _ => Ok(None),
         }
     }
 
@@ -183,16 +168,8 @@ impl OwnDevice {
     {
         let LastIteration { end, number } = self.route(placing)?;
         match end {
-            IterEnd::Done(routes) => {
-                let run = self.run_by(placing, &routes, number);
-                drop(routes);
-                run
-            }
-            end => {
-                let run = run_left(self.alloc, placing, &end);
-                drop(end);
-                run
-            }
+            IterEnd::Done(routes) => self.run_by(placing, &routes, number),
+            end => run_left(self.alloc, placing, &end),
         }
     }
 
@@ -216,15 +193,8 @@ impl OwnDevice {
             (task_on self.now request.entry.netlist.now request.entry.seed request.entry.effort)) }
     {
         match self.place(request)? {
-            PlacingEnd::Placed(placing) => {
-                let crowding = self.crowding_of(&placing);
-                drop(placing);
-                crowding
-            }
-            PlacingEnd::Refused(refusal) => {
-                drop(refusal);
-                Ok(None)
-            }
+            PlacingEnd::Placed(placing) => self.crowding_of(&placing),
+            PlacingEnd::Refused(_) => Ok(None),
         }
     }
 
@@ -237,15 +207,8 @@ impl OwnDevice {
     {
         let LastIteration { end, number: _ } = self.route(placing)?;
         match end {
-            IterEnd::GaveUp(routing) => {
-                let crowding = self.crowding_by(placing, &routing);
-                drop(routing);
-                Ok(Some(crowding?))
-            }
-            end => {
-                drop(end);
-                Ok(None)
-            }
+            IterEnd::GaveUp(routing) => Ok(Some(self.crowding_by(placing, &routing)?)),
+            _ => Ok(None),
         }
     }
 
@@ -264,17 +227,11 @@ impl OwnDevice {
             unreachable!()
         };
         let (overused, nodes) = crowded_nodes(self.alloc, &window, routing)?;
-        match placing.shared_packed().clone() {
-            Ok(packed) => Ok(Crowding {
-                packed,
-                rows: self.strip.rows,
-                overused,
-                nodes,
-            }),
-            Err(error) => {
-                drop(nodes);
-                Err(error)
-            }
-        }
+        Ok(Crowding {
+            packed: placing.shared_packed().clone()?,
+            rows: self.strip.rows,
+            overused,
+            nodes,
+        })
     }
 }

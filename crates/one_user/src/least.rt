@@ -64,11 +64,7 @@ pub fn least_tracks<T: Sink>(
         × Fails (fault_of (arch_of plan.entry.text.now tracks)) error) }
 {
     match place_with(alloc, plan, request)? {
-        PlacingEnd::Placed(placing) => {
-            let least = least_for(alloc, plan, request, &placing, tries);
-            drop(placing);
-            least
-        }
+        PlacingEnd::Placed(placing) => least_for(alloc, plan, request, &placing, tries),
         PlacingEnd::Refused(refusal) => {
             let _told = tell_try(tries, 1, "refused");
             Ok(Least::Refused(refused_run(refusal)))
@@ -164,9 +160,7 @@ fn try_with(
 {
     let arch = read_arch(alloc, plan.text, tracks)?;
     let device = OwnDevice::new(alloc, arch, plan.columns, plan.rows)?;
-    let run = device.run_placed(placing);
-    drop(device);
-    Ok(run?)
+    Ok(device.run_placed(placing)?)
 }
 
 /// Packs and places a netlist for all numbers of tracks, or returns why it is refused.
@@ -181,9 +175,7 @@ pub(crate) fn place_with(
 {
     let arch = read_arch(alloc, plan.text, 1)?;
     let device = OwnDevice::new(alloc, arch, plan.columns, plan.rows)?;
-    let placed = device.place(request);
-    drop(device);
-    Ok(placed?)
+    Ok(device.place(request)?)
 }
 
 /// Writes the line of a try with a number of tracks, with its end.
@@ -240,9 +232,7 @@ pub fn run_with<W: Sink>(
 {
     let arch = read_arch(alloc, plan.text, tracks)?;
     let device = OwnDevice::new(alloc, arch, plan.columns, plan.rows)?;
-    let run = device.run(request, teller);
-    drop(device);
-    Ok(run?)
+    Ok(device.run(request, teller)?)
 }
 
 /// Returns where the routing of a netlist with that number of tracks is overused after its last
@@ -261,7 +251,5 @@ pub fn crowding_with(
 {
     let arch = read_arch(alloc, plan.text, tracks)?;
     let device = OwnDevice::new(alloc, arch, plan.columns, plan.rows)?;
-    let crowding = device.crowding(request);
-    drop(device);
-    Ok(crowding?)
+    Ok(device.crowding(request)?)
 }

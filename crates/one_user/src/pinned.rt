@@ -53,9 +53,8 @@ pub fn run_pinned(
 {
     match place_pinned(alloc, plan, request, pins)? {
         PinnedPlacing::Placed(placing) => {
-            let run = run_on(alloc, plan, tracks, request, pins, &placing);
-            drop(placing);
-            Ok(PinnedEnd::Placed { tracks, run: run? })
+            let run = run_on(alloc, plan, tracks, request, pins, &placing)?;
+            Ok(PinnedEnd::Placed { tracks, run })
         }
         PinnedPlacing::Refused(refusal) => Ok(PinnedEnd::Refused(refusal)),
         PinnedPlacing::NotPinned(fault) => Ok(PinnedEnd::NotPinned(fault)),
@@ -77,9 +76,7 @@ fn run_on(
     ensures { IfOk result (RunsWith plan.entry tracks placing.now) }
 {
     let device = device_with(alloc, plan, tracks, request, pins, placing)?;
-    let run = device.run_whole(placing);
-    drop(device);
-    Ok(run?)
+    Ok(device.run_whole(placing)?)
 }
 
 /// The device with that number of tracks, on which the blocks are placed.
@@ -113,9 +110,7 @@ fn place_pinned(
 {
     match place_with(alloc, plan, request)? {
         PlacingEnd::Placed(placing) => {
-            let pinned = pin_pads(alloc, &placing, pins);
-            drop(placing);
-            match pinned {
+            match pin_pads(alloc, &placing, pins) {
                 Ok(pinned) => Ok(PinnedPlacing::Placed(pinned)),
                 Err(TextError::Fault(fault)) => Ok(PinnedPlacing::NotPinned(fault)),
                 Err(TextError::NoMemory) => Err(ArchError::NoMemory),
@@ -141,11 +136,7 @@ pub fn least_pinned<T: Sink>(
     ensures { IfOk result (IsLeastPinned plan.entry request.entry (pins_read pins.now)) }
 {
     match place_pinned(alloc, plan, request, pins)? {
-        PinnedPlacing::Placed(placing) => {
-            let least = least_on(alloc, plan, request, pins, &placing, tries);
-            drop(placing);
-            least
-        }
+        PinnedPlacing::Placed(placing) => least_on(alloc, plan, request, pins, &placing, tries),
         PinnedPlacing::Refused(refusal) => {
             let _told = tell_try(tries, 1, "refused");
             Ok(PinnedEnd::Refused(refusal))
@@ -198,7 +189,5 @@ fn try_on(
     ensures { IfOk result (IsTryOn plan.entry placing.now tracks) }
 {
     let device = device_with(alloc, plan, tracks, request, pins, placing)?;
-    let run = device.run_placed(placing);
-    drop(device);
-    Ok(run?)
+    Ok(device.run_placed(placing)?)
 }

@@ -39,11 +39,7 @@ pub(crate) fn place_netlist(
 {
     let lut_size = arch.arch().lut_size;
     match circuit_in(alloc, request.netlist.as_bytes(), lut_size)? {
-        Ok(circuit) => {
-            let placed = place_circuit(alloc, arch, strip, request, &circuit);
-            drop(circuit);
-            placed
-        }
+        Ok(circuit) => place_circuit(alloc, arch, strip, request, &circuit),
         Err(fault) => Ok(PlacingEnd::Refused(Refusal::BadBlif(fault))),
     }
 }
@@ -63,11 +59,7 @@ fn place_circuit(
         request.entry.netlist.now request.entry.seed request.entry.effort)) }
 {
     match packed_from(alloc, circuit, arch)? {
-        Ok(packed) => {
-            let placed = place_packed(alloc, &packed, strip, request.seed, request.effort);
-            drop(packed);
-            placed
-        }
+        Ok(packed) => place_packed(alloc, &packed, strip, request.seed, request.effort),
         Err(ble) => Ok(PlacingEnd::Refused(Refusal::CannotPack(ble))),
     }
 }

@@ -145,9 +145,7 @@ pub(crate) fn ask(slot: &mut Slot, command: Command) -> Result<Option<Refusal>, 
         refusal ≡ refusal_in (answer_to slot.old.state (Asked command)).1) }
     ensures slot { OnOk result (slot.new ≡ after_event slot.old (Asked command)) }
 {
-    let reply = slot.command(&command);
-    drop(command);
-    match reply {
+    match slot.command(&command) {
         Ok(Reply::Refused(refusal)) => Ok(Some(refusal)),
         Ok(_) => Ok(None),
         Err(NotAnswered::NoMemory) => Err(AllocError),
@@ -192,14 +190,8 @@ fn file_of(slot: &Slot, command: Command) -> Result<SharedText, AllocError>
     ensures { IfOk result (λ text. text_in (answer_to slot.now.state (Asked command)).1
         ≡ Some text) }
 {
-    let answer = slot.answer(&command);
-    drop(command);
-    match answer {
-        Ok(answer) => {
-            let text = text_in(answer.reply());
-            drop(answer);
-            text
-        }
+    match slot.answer(&command) {
+        Ok(answer) => text_in(answer.reply()),
         Err(NotAnswered::NoMemory) => Err(AllocError),
         Err(NotAnswered::JournalFull) => unreachable!(),
     }
@@ -223,15 +215,8 @@ fn ending_of(slot: &Slot) -> Result<Ending, AllocError>
     ensures { IfOk result (λ ending.
         ending_in (answer_to slot.now.state (Asked Command.Status)).1 ≡ Some ending) }
 {
-    let command = Command::Status;
-    let answer = slot.answer(&command);
-    drop(command);
-    match answer {
-        Ok(answer) => {
-            let ending = ending_in(answer.reply());
-            drop(answer);
-            ending
-        }
+    match slot.answer(&Command::Status) {
+        Ok(answer) => ending_in(answer.reply()),
         Err(NotAnswered::NoMemory) => Err(AllocError),
         Err(NotAnswered::JournalFull) => unreachable!(),
     }

@@ -144,10 +144,7 @@ pub(crate) fn push_parts(reply: &mut MemorySink, parts: &[&[u8]]) -> Result<(), 
     ensures { OnOk result (sink_text reply.new
         ≡ sink_text reply.old ++ flat_map (λ part. part.now) parts.now) }
 {
-    match write_slices(reply, parts) {
-        Ok(()) => Ok(()),
-        Err(_) => Err(AllocError),
-    }
+    write_slices(reply, parts).or(Err(AllocError))
 }
 
 /// Appends the line of a refusal.
@@ -155,8 +152,5 @@ pub fn push_refused(reply: &mut MemorySink, number: u32, name: &str) -> Result<(
     ensures { OnOk result (sink_text reply.new ≡ sink_text reply.old
         ++ refused_text number name.now) }
 {
-    match write_refused(reply, number, name) {
-        Ok(()) => Ok(()),
-        Err(_) => Err(AllocError),
-    }
+    write_refused(reply, number, name).or(Err(AllocError))
 }

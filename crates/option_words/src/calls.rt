@@ -5,7 +5,7 @@ ghost use Rattle.std.specs.List.{Contains};
 use crate::declared::{Program, Toolbox, command, commands};
 use crate::given::Given;
 use clap::error::ErrorKind;
-use clap::{ArgMatches, Command, Error};
+use clap::{ArgMatches, Error};
 use std::alloc::Global;
 use std::convert::AsStr;
 
@@ -26,24 +26,8 @@ pub fn read_call<'a, S: AsStr>(
     ensures { IfOk result (λ call. Contains toolbox.now.tools.now call.tool) }
 {
     let mut commands = commands(alloc, toolbox)?;
-    let call = called_by(alloc, &mut commands, toolbox, words);
-    drop(commands);
-    call
-}
-
-/// Reads the words with the toolbox as a clap command.
-fn called_by<'a, S: AsStr>(
-    alloc: Global,
-    commands: &mut Command<'a>,
-    toolbox: &Toolbox,
-    words: &'a [S],
-) -> Result<Call<'a>, Error>
-    ensures { IfOk result (λ call. Contains toolbox.now.tools.now call.tool) }
-{
     let matches = commands.try_get_matches_from_mut(words)?;
-    let call = call_of(alloc, toolbox, &matches);
-    drop(matches);
-    match call? {
+    match call_of(alloc, toolbox, &matches)? {
         Some(call) => Ok(call),
         None => Err(commands.error(ErrorKind::MissingSubcommand, "a tool is wanted")?),
     }
@@ -80,8 +64,5 @@ pub fn call_refusal(alloc: Global, toolbox: &Toolbox, tool: &Program, why: &str)
 fn refused_by(alloc: Global, toolbox: &Toolbox, tool: &Program, why: &str) -> Result<Error, Error> {
     let name = format!(in alloc; "{} {}", toolbox.name, tool.name)?;
     let mut command = command(alloc, tool)?.bin_name(name.as_str())?;
-    let refusal = command.error(ErrorKind::ValueValidation, why);
-    drop(command);
-    drop(name);
-    Ok(refusal?)
+    Ok(command.error(ErrorKind::ValueValidation, why)?)
 }

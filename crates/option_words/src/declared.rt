@@ -67,40 +67,20 @@ pub(crate) fn commands<'a>(alloc: Global, toolbox: &Toolbox) -> Result<Command<'
         .subcommand_required(true)
         .disable_help_subcommand(true);
     for tool in toolbox.tools {
-        commands = with_tool(alloc, commands, tool)?;
+        commands = commands.subcommand(command(alloc, tool)?)?;
     }
     Ok(commands)
 }
 
-/// The clap command with one more tool.
-fn with_tool<'a>(
-    alloc: Global,
-    commands: Command<'a>,
-    tool: &Program,
-) -> Result<Command<'a>, AllocError> {
-    match command(alloc, tool) {
-        Ok(command) => commands.subcommand(command),
-        Err(error) => {
-            drop(commands);
-            Err(error)
-        }
-    }
-}
-
 /// The program as a clap command.
 pub(crate) fn command<'a>(alloc: Global, program: &Program) -> Result<Command<'a>, AllocError> {
-    let mut command = command_of(alloc, program);
+    let mut command = Command::new(alloc, program.name)
+        .about(program.about)
+        .after_help(program.after_help);
     for option in program.options {
         command = command.arg(argument(alloc, option))?;
     }
     Ok(command)
-}
-
-/// The clap command without the program's options.
-fn command_of<'a>(alloc: Global, program: &Program) -> Command<'a> {
-    Command::new(alloc, program.name)
-        .about(program.about)
-        .after_help(program.after_help)
 }
 
 /// An option as a clap argument.

@@ -1,8 +1,8 @@
 //! Reads the words of a program.
 use crate::declared::{Program, command};
 use crate::given::Given;
+use clap::Error;
 use clap::error::ErrorKind;
-use clap::{Command, Error};
 use std::alloc::Global;
 use std::convert::AsStr;
 
@@ -14,33 +14,13 @@ pub fn read_words<'a, S: AsStr>(
     words: &'a [S],
 ) -> Result<Given<'a>, Error> {
     let mut command = command(alloc, program)?;
-    let given = given_by(alloc, &mut command, program, words);
-    drop(command);
-    given
-}
-
-/// Reads the words with the program as a clap command.
-fn given_by<'a, S: AsStr>(
-    alloc: Global,
-    command: &mut Command<'a>,
-    program: &Program,
-    words: &'a [S],
-) -> Result<Given<'a>, Error> {
     let matches = command.try_get_matches_from_mut(words)?;
-    let given = Given::new(alloc, program.options, &matches);
-    drop(matches);
-    Ok(given?)
+    Ok(Given::new(alloc, program.options, &matches)?)
 }
 
 /// The refusal of words that could be parsed, in the form of clap's own errors.
 pub fn refusal<'a, S: AsStr>(alloc: Global, program: &Program, words: &'a [S], why: &str) -> Error {
-    let mut command = match command(alloc, program) {
-        Ok(command) => command,
-        Err(error) => return Error::from(error),
-    };
-    let told = refused_by(&mut command, words, why);
-    drop(command);
-    match told {
+    match refused_by(alloc, program, words, why) {
         Ok(refusal) => refusal,
         Err(error) => error,
     }
@@ -49,10 +29,12 @@ pub fn refusal<'a, S: AsStr>(alloc: Global, program: &Program, words: &'a [S], w
 /// Builds that refusal with a clap command, which learns from the words how it is called. Returns
 /// an error if memory runs out.
 fn refused_by<'a, S: AsStr>(
-    command: &mut Command<'a>,
+    alloc: Global,
+    program: &Program,
     words: &'a [S],
     why: &str,
 ) -> Result<Error, Error> {
+    let mut command = command(alloc, program)?;
     drop(command.try_get_matches_from_mut(words)?);
     Ok(command.error(ErrorKind::ValueValidation, why)?)
 }

@@ -32,28 +32,16 @@ fn depth_at(nodes: &[RouteNode], depths: &[usize], place: usize) -> usize
     }
     let node = nodes[place].node;
     if is_sink(nodes[place - 1].node.kind) {
-        earlier_depth(nodes, depths, node)
+        depth_of(nodes, depths, node)
     } else {
         depths[place - 1] + wires_of(node.kind)
     }
 }
 
-/// The number of wires on the way to a node, if it is among those before.
-fn earlier_depth(nodes: &[RouteNode], depths: &[usize], node: Node) -> usize
-    requires before { length depths.now ≤ length nodes.now }
-    requires small { AreSmall depths.now }
-    ensures value { result ≡ earlier_depth nodes.now depths.now node }
-    ensures small { result ≤ length depths.now }
-{
-    match place_of(nodes, node) {
-        Some(place) if place < depths.len() => depths[place],
-        _ => 0,
-    }
-}
-
-/// The number of wires on the way to a node of a route; 0 if the route doesn't have it.
+/// The number of wires on the way to a node of a route; 0 if no depth is known of it.
 pub(crate) fn depth_of(nodes: &[RouteNode], depths: &[usize], node: Node) -> usize
-    ensures { result ≡ earlier_depth nodes.now depths.now node }
+    ensures value { result ≡ earlier_depth nodes.now depths.now node }
+    ensures small { AreSmall depths.now → result ≤ length depths.now }
 {
     match place_of(nodes, node) {
         Some(place) if place < depths.len() => depths[place],

@@ -31,7 +31,5 @@ fn wires_to(alloc: Global, hop: Hop<'_>) -> Result<u64, AllocError>
     ensures { IfOk result (IsWireCount hop.entry) }
 {
     let depths = depths_of(alloc, hop.nodes)?;
-    let wires = depth_of(hop.nodes, &depths, hop.sink);
-    drop(depths);
-    Ok(wires as u64)
+    Ok(depth_of(hop.nodes, &depths, hop.sink) as u64)
 }

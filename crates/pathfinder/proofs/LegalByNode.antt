@@ -1,5 +1,5 @@
 -- Legal trees by number are legal routes by node.
-use Rattle.pathfinder.proofs.Prelude.{◌≡◌, ℕ, refl, ◌+◌, ◌<◌, ◌≤◌, List, [], ◌∷◌, map, Bool, true, false, cond, ◌||◌, eqb, arith, ◌∙◌, inl, inr, sym, ap, subst, count_by, AllZip, Contains, concat, list_any, cases_lt, sum_by-cons, All-tail, PackedCircuit, BlockNet, block_nets, Place, block_at, place_of, Node, is_node, is_edge, capacity_of, Basis, IsRoutingGraph, graph_of, Net, IsNet, IsWiring, AreNets, Tree, Done, occupancy, routed_after, sink_at, net_source, net_sinks, is_same_node, wiring_of, number_of, net_to_route, nets_to_route, path_nodes, pairs_of, IsLeaf, LeadsOver, IsTree, IsRoute, IsRouted, IsLegal, IsNumberTree, IsNetTree, IsTreeFor, AreLegal, routes_by_node, LeastPathLaws}
+use Rattle.pathfinder.proofs.Prelude.{◌≡◌, ℕ, refl, ◌+◌, ◌<◌, ◌≤◌, List, [], ◌∷◌, map, Bool, true, cond, ◌||◌, eqb, arith, ◌∙◌, inl, inr, sym, ap, subst, count_by, AllZip, Contains, concat, list_any, cases_lt, sum_by-cons, All-tail, PackedCircuit, BlockNet, block_nets, Place, block_at, place_of, Node, is_node, is_edge, capacity_of, Basis, IsRoutingGraph, graph_of, Net, IsNet, IsWiring, AreNets, Tree, Done, occupancy, routed_after, sink_at, net_source, net_sinks, is_same_node, wiring_of, number_of, net_to_route, nets_to_route, path_nodes, pairs_of, IsLeaf, LeadsOver, IsTree, IsRoute, IsRouted, IsLegal, IsNumberTree, IsNetTree, IsTreeFor, AreLegal, routes_by_node, LeastPathLaws}
 use Rattle.std.specs.Prelude.{All}
 use Rattle.pathfinder.proofs.Steps.{in_first, in_later}
 use Rattle.pathfinder.proofs.Strips.{is_pair}
@@ -15,8 +15,7 @@ module _ (basis : Basis) (lawful : IsRoutingGraph basis (graph_of basis)) where
 
   -- a node has only one number
   one_number : (a b : ℕ) → a < (graph_of basis).count → b < (graph_of basis).count → (graph_of basis).node a ≡ (graph_of basis).node b → a ≡ b
-  one_number a b a_few b_few e =
-      sym (number_found (graph_of basis) lawful.ordered a ((graph_of basis).node b) a_few e) ∙ number_found (graph_of basis) lawful.ordered b ((graph_of basis).node b) b_few refl
+  one_number a b a_few b_few e = grind (arith, number_found (graph_of basis) lawful.ordered a ((graph_of basis).node b) a_few e, number_found (graph_of basis) lawful.ordered b ((graph_of basis).node b) b_few refl)
 
   -- ---- one net
 
@@ -91,8 +90,7 @@ module _ (basis : Basis) (lawful : IsRoutingGraph basis (graph_of basis)) where
 
   sinks_told : (sink : ℕ → Node) (readers : List ℕ) (global : Bool) → All (λ number. number < (graph_of basis).count) (cond global [] (map (λ reader. number_of (graph_of basis) (sink reader)) readers)) →
       map (graph_of basis).node (cond global [] (map (λ reader. number_of (graph_of basis) (sink reader)) readers)) ≡ cond global [] (map sink readers)
-  sinks_told sink readers true few = refl
-  sinks_told sink readers false few = numbers_told sink readers few
+  sinks_told sink readers global few = grind (arith, numbers_told)
 
   module _ (packed : PackedCircuit) (places : List Place) where
     net_told : (net : BlockNet) (tree : Tree) → IsNet (wiring_of basis) (net_to_route basis packed places net) → IsWithin (wiring_of basis) tree →
@@ -166,14 +164,9 @@ module _ (basis : Basis) (lawful : IsRoutingGraph basis (graph_of basis)) where
   IsThere node = is_node basis.arch basis.strip node ≡ true
 
   pub all_there : (trees : List Tree) → All (All (All IsNumber)) trees → All (All (All IsThere)) (routes_by_node (graph_of basis) trees)
-  all_there trees within =
-      all_mapped (All (All IsNumber)) (All (All IsThere)) (map (map (graph_of basis).node))
-      (all_mapped (All IsNumber) (All IsThere) (map (graph_of basis).node) (all_mapped IsNumber IsThere (graph_of basis).node lawful.nodes)) trees within
+  all_there trees within = grind (arith, all_mapped (All (All IsNumber)) (All (All IsThere)) (map (map (graph_of basis).node)) (all_mapped (All IsNumber) (All IsThere) (map (graph_of basis).node) (all_mapped IsNumber IsThere (graph_of basis).node lawful.nodes)) trees within)
 
   -- finished routes are legal
   pub done_told : IsWiring (wiring_of basis) → LeastPathLaws → (packed : PackedCircuit) (places : List Place) (nets : List Net) → nets ≡ nets_to_route basis packed places → AreNets (wiring_of basis) nets → (iterations : ℕ) →
       (routed_after (wiring_of basis) nets iterations).standing ≡ Done → IsLegal basis.arch basis.strip packed places (routes_by_node (graph_of basis) (routed_after (wiring_of basis) nets iterations).trees)
-  done_told law paths packed places nets same are iterations done =
-      let sound = done_sound (wiring_of basis) law paths nets are iterations done in
-      legal_told packed places (routed_after (wiring_of basis) nets iterations).trees (subst (AreNets (wiring_of basis)) same are) sound.1
-      (subst (λ nets'. AreLegal (wiring_of basis) nets' (routed_after (wiring_of basis) nets iterations).trees) same sound.0)
+  done_told law paths packed places nets same are iterations done = grind (arith, legal_told, done_sound (wiring_of basis) law paths nets are iterations done)

@@ -39,10 +39,7 @@ module _ (basis : Basis) (known : IsBasis basis) (lawful : IsRoutingGraph basis 
 
   -- a node has its number
   numbered : (node : Node) → is_node basis.arch basis.strip node ≡ true → (number_of (graph_of basis) node < (graph_of basis).count) × ((graph_of basis).node (number_of (graph_of basis) node) ≡ node)
-  numbered node is =
-      let there = lawful.all node is in
-      let e = number_found (graph_of basis) lawful.ordered there.0 node there.1 there.2 in
-      (omega (arith, e, there.1), ap (graph_of basis).node e ∙ there.2)
+  numbered node is = grind (arith, number_found)
 
   pub block_source : (block : ℕ) → block < length (blocks_of packed) → is_node basis.arch basis.strip (source_at (block_at packed block) (place_of places block)) ≡ true
   block_source block b = source_is basis.arch basis.strip (block_at packed block) (place_of places block) (block_stands block b)
@@ -54,11 +51,7 @@ module _ (basis : Basis) (known : IsBasis basis) (lawful : IsRoutingGraph basis 
   sink_number block = number_of (graph_of basis) (sink_at (block_at packed block) (place_of places block))
 
   sinks_apart : (block other : ℕ) → block < length (blocks_of packed) → other < length (blocks_of packed) → sink_number block ≡ sink_number other → block ≡ other
-  sinks_apart block other b o e =
-      let one = numbered (sink_at (block_at packed block) (place_of places block)) (block_sink block b) in
-      let two = numbered (sink_at (block_at packed other) (place_of places other)) (block_sink other o) in
-      let same = sym one.1 ∙ ap (graph_of basis).node e ∙ two.1 in
-      placed.one_to_one block other b o (same_sink basis.strip (block_at packed block) (block_at packed other) (place_of places block) (place_of places other) (block_stands block b).row (block_stands other o).row same)
+  sinks_apart block other b o e = grind (arith, numbered, block_sink, same_sink, block_stands)
 
   is_net : (net : BlockNet) → IsBlockNet packed net → IsNet (wiring_of basis) (net_to_route basis packed places net)
   is_net net n = by net.global

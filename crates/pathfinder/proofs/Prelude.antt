@@ -39,7 +39,7 @@ unfoldable pub use Rattle.pathfinder.specs.Negotiation.{routed_after}
 pub use Rattle.pathfinder.specs.Overuse.{IsMost, IsOveruse, count_over, has_node, over_at, over_in, overuse_at}
 pub use Rattle.pathfinder.specs.PlacedNets.{net_to_route, number_of, wiring_of}
 unfoldable pub use Rattle.pathfinder.specs.PlacedNets.{nets_to_route}
-pub use Rattle.pathfinder.specs.Prelude.{Arch, AreNodes, ArePlaced, Basis, Block, BlockNet, ChanX, ChanY, Cluster, Graph, Ipin, IsBasis, IsBlockNet, IsLawful, IsLeastPath, IsPath, IsStart, Node, NodeKind, Opin, PackedCircuit, Place, RoutingGraph, Sink, Source, Strip, block_at, block_nets, blocks_of, capacity_of, cost_of, is_edge, is_node, make_node, place_of, rank_of, terminals_of}
+pub use Rattle.pathfinder.specs.Prelude.{Arch, AreNodes, ArePlaced, Basis, Block, BlockNet, ChanX, ChanY, Cluster, Graph, Ipin, IsBasis, IsBlockNet, IsLawful, IsLeastPath, IsPath, IsStart, Node, NodeKind, Opin, PackedCircuit, Place, RoutingGraph, Sink, Source, Strip, block_at, block_nets, blocks_of, capacity_of, cost_of, is_edge, is_node, place_of, rank_of, terminals_of}
 pub use Rattle.pathfinder.specs.Priced.{AreHeldBut, ArePriced}
 pub use Rattle.pathfinder.specs.Rates.{AreRates, AreRatesBelow}
 pub use Rattle.pathfinder.specs.Routings.{FindsNoPath, IsAfter, IsDone, IsNext, RoutingState, routes_by_node}
@@ -57,6 +57,6 @@ pub use Rattle.rows.specs.Spans.{AreWithin, part_of}
 pub use Rattle.rows.specs.declared.span.Span.{Span}
 pub use Rattle.rr_graph.proofs.GeometryLaws.{edge_joins}
 pub use Rattle.rr_graph.specs.Geometry.{is_block_row, is_together, joins}
-pub use Rattle.rr_graph.specs.Graph.{IsRoutingGraph, nodes_of}
+pub use Rattle.rr_graph.specs.Graph.{IsRoutingGraph}
 unfoldable pub use Rattle.rr_graph.specs.Graph.{graph_of}
 pub use Rattle.rr_graph.specs.Node.{IsBefore}

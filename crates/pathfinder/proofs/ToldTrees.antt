@@ -1,5 +1,5 @@
 -- Trees with each number replaced by its node.
-use Rattle.pathfinder.proofs.Prelude.{◌≡◌, ℕ, refl, List, [], ◌∷◌, ◌++◌, map, arith, ◌∙◌, inl, inr, sym, ap, subst, Contains, concat, get_or-map, length-map, map-append, flat_map-cons, All-cons, All-nil, All-tail, Node, path_nodes, steps_of, pairs_of, LeadsOver}
+use Rattle.pathfinder.proofs.Prelude.{◌≡◌, ℕ, refl, List, [], ◌∷◌, map, arith, ◌∙◌, inl, inr, sym, ap, subst, Contains, concat, get_or-map, length-map, map-append, All-cons, All-nil, All-tail, Node, path_nodes, steps_of, pairs_of, LeadsOver}
 use Rattle.std.specs.Prelude.{All}
 use Rattle.pathfinder.proofs.Steps.{in_none, in_first, in_later, in_cases}
 
@@ -24,9 +24,7 @@ all_mapped P Q f keeps (x ∷ xs) each = All-cons Q (f x) (map f xs) (keeps x (e
 module _ (f : ℕ → Node) where
   pub nodes_told : (tree : List (List ℕ)) → path_nodes (map (map f) tree) ≡ map f (concat tree)
   nodes_told [] = refl
-  nodes_told (path ∷ tree) =
-      flat_map-cons (λ (nodes : List Node). nodes) (map f path) (map (map f) tree)
-      ∙ (ap (λ rest. map f path ++ rest) (nodes_told tree) ∙ sym (map-append f path (concat tree)))
+  nodes_told (path ∷ tree) = grind (arith, map-append, nodes_told tree)
 
   abbrev both : ℕ × ℕ → Node × Node
   both pair = (f pair.0, f pair.1)
@@ -38,11 +36,7 @@ module _ (f : ℕ → Node) where
 
   pairs_told : (tree : List (List ℕ)) → pairs_of (map (map f) tree) ≡ map both (pairs_of tree)
   pairs_told [] = refl
-  pairs_told (path ∷ tree) =
-      flat_map-cons steps_of (map f path) (map (map f) tree)
-      ∙ (ap (λ steps. steps ++ pairs_of (map (map f) tree)) (steps_told path)
-      ∙ (ap (λ rest. map both (steps_of path) ++ rest) (pairs_told tree)
-      ∙ (sym (map-append both (steps_of path) (pairs_of tree)) ∙ ap (map both) (sym (flat_map-cons steps_of path tree)))))
+  pairs_told (path ∷ tree) = grind (arith, steps_told, map-append, pairs_told tree)
 
   pub to_nodes : (tree : List (List ℕ)) (x : ℕ) → Contains (concat tree) x → Contains (path_nodes (map (map f) tree)) (f x)
   to_nodes tree x c = subst (λ nodes. Contains nodes (f x)) (sym (nodes_told tree)) (to_map f (concat tree) x c)

@@ -42,38 +42,29 @@ pub fn read_replies<'t, 'p>(
     ensures { Gives printed.now (replies_in (map asked_line asked.now) printed.now) result }
 {
     let sections = sections_of(alloc, asked)?;
-    let mut lines = Vec::new(alloc);
-    if let Err(failed) = add_unanswered(&mut lines, asked) {
-        drop(lines);
-        drop(sections);
-        return Err(ReplyError::from(failed));
-    }
+    let mut lines = bare_lines(alloc, asked)?;
     match read_sections(&mut lines, &sections, printed) {
         Ok(()) => Ok(Replies::new(lines, sections)),
-        Err(left) => {
-            drop(lines);
-            drop(sections);
-            Err(ReplyError::Fault(line_at(printed, left.bytes)))
-        }
+        Err(left) => Err(ReplyError::Fault(line_at(printed, left.bytes))),
     }
 }
 
 /// The lines without replies.
-fn add_unanswered<'t>(
-    lines: &mut Vec<Answered<'t, '_>>,
+fn bare_lines<'t, 'p>(
+    alloc: Global,
     asked: &[Asked<'t>],
-) -> Result<(), AllocError>
-    requires { lines.old.items ≡ [] }
-    ensures { OnOk result (answered_lines lines.new.items
-        ≡ map without_reply (map asked_line asked.now)) }
+) -> Result<Vec<Answered<'t, 'p>>, AllocError>
+    ensures { IfOk result (λ lines.
+        answered_lines lines.items ≡ map without_reply (map asked_line asked.now)) }
 {
+    let mut lines = Vec::new(alloc);
     for one in asked {
         lines.push(Answered {
             asked: *one,
             reply: &[],
         })?;
     }
-    Ok(())
+    Ok(lines)
 }
 
 /// Reads the operator's section, and those of the names, up to the end.

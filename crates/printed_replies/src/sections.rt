@@ -26,19 +26,12 @@ pub(crate) fn sections_of<'t>(
     let names = names_of(alloc, asked)?;
     let mut operator = Vec::new(alloc);
     let mut sessions = Vec::new(alloc);
-    match add_all(alloc, &names, asked, &mut operator, &mut sessions) {
-        Ok(()) => Ok(Sections {
-            names,
-            operator,
-            sessions,
-        }),
-        Err(error) => {
-            drop(names);
-            drop(operator);
-            drop(sessions);
-            Err(error)
-        }
-    }
+    add_all(alloc, &names, asked, &mut operator, &mut sessions)?;
+    Ok(Sections {
+        names,
+        operator,
+        sessions,
+    })
 }
 
 /// The names of the sessions, in the order of their first lines.

@@ -65,13 +65,7 @@ impl<'t> Sessions<'t> {
     pub(crate) fn into_said(self) -> Vec<SessionInput<'t>>
         ensures { result.items ≡ self.entry.said.items }
     {
-        let Sessions {
-            alloc: _,
-            names,
-            said,
-        } = self;
-        drop(names);
-        said
+        self.said
     }
 }
 

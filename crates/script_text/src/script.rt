@@ -36,8 +36,7 @@ impl<'t> Script<'t> {
     pub fn into_acts(self) -> Vec<Act<&'t [u8]>>
         ensures { map named_act result.items ≡ self.entry }
     {
-        let Script { acts } = self;
-        acts
+        self.acts
     }
 }
 
@@ -124,8 +123,5 @@ impl<'t> Reader<'t> {
 fn push<'t>(acts: &mut Vec<Act<&'t [u8]>>, act: Act<&'t [u8]>) -> Result<(), AllocError>
     ensures { OnOk result (acts.new.items ≡ acts.old.items ++ act.entry ∷ []) }
 {
-    match acts.push(act) {
-        Ok(()) => Ok(()),
-        Err(failed) => Err(AllocError::from(failed)),
-    }
+    Ok(acts.push(act)?)
 }

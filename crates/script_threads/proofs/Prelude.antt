@@ -10,14 +10,13 @@ pub use Rattle.std.proofs.lemmas.List.Elements.{All-append, All-cons, All-contai
 pub use Rattle.std.proofs.lemmas.List.Kept.{AllPairs-cons}
 pub use Rattle.std.proofs.lemmas.Slice.Eq.{bytes_eq-Decides}
 pub use Rattle.std.specs.List.{AllZip, Contains, cons_option, filter_map, flat_map}
-pub use Rattle.std.specs.Prelude.{All, AllPairs, IfOk, IfSome, IsSomeAnd, IsTrue, OnOk, if◌then◌else◌, is_some, map, nat_le, option_map, reverse, ◌&&◌, ◌||◌}
+pub use Rattle.std.specs.Prelude.{All, AllPairs, IfOk, IfSome, IsSomeAnd, OnOk, if◌then◌else◌, is_some, map, nat_le, option_map, reverse, ◌&&◌, ◌||◌}
 pub use Rattle.std.specs.declared.alloc.Global.{Global}
 pub use Rattle.std.specs.declared.vec.Vec.{Vec}
 pub use Rattle.job_state.specs.declared.sources.Sources.{Sources}
 pub use Rattle.job_state.specs.declared.step.JobStep.{JobStep}
 pub use Rattle.operator.proofs.OperatorLemmas.{on_ok}
 pub use Rattle.script_text.specs.declared.inputs.SessionInput.{SessionInput}
-pub use Rattle.script_text.specs.declared.replies.SessionReplies.{SessionReplies}
 pub use Rattle.script_threads.specs.Left.{HaveMadeSteps, IsEnded, IsJobOf, MakesSteps, MakesStepsOf}
 pub use Rattle.script_threads.specs.Lines.{AreServed, RepliesEach, Serves, stage, with_give_backs}
 pub use Rattle.script_threads.specs.OneRun.{IsOneRun, calls_of}
@@ -25,7 +24,7 @@ pub use Rattle.script_threads.specs.Parts.{Adds, AreFullNotes, AreParts, Finishe
 pub use Rattle.script_threads.specs.Prelude.{AreAllCalls, AreApart, AreOfLive, AreTold, Basis, Call, Command, Device, Follows, GiveBack, HeldList, History, IsServed, IsTold, Item, ItemAnswer, JobState, LeaseState, Marked, Note, Noted, OperatorLine, Parts, Put, Receipt, Receipted, Refused, Run, Said, Section, ServiceState, SessionLine, Stage, Status, Stays, Take, Tenant, TranscriptState, Wait, empty_service, give_backs, is_leased, is_of_threads, items_of, journal_of, last_id, live_of, named_operator, new_transcript, noted_all, own_graph, own_receipts, receipt_in, said_by, section_of, sink_text, takeable_in}
 pub use Rattle.script_threads.specs.Refusals.{NoneLate, is_note, is_receipt, places_in, served_late}
 pub use Rattle.script_threads.specs.Seats.{AreFree, GivesOneLease, HasSeat}
-pub use Rattle.script_threads.specs.Served.{Conversation, Ends, IsAnswered, IsServedFrom, Ran, RunsOn, told_in}
+pub use Rattle.script_threads.specs.Served.{Conversation, IsAnswered, IsServedFrom, Ran, told_in}
 pub use Rattle.script_threads.specs.Sessions.{Asked, IsToldBy, PartState, asked_in, asked_of, evicted_line, transcripts_of}
 pub use Rattle.script_threads.specs.Turns.{is_turn, own_answer, own_answers, receipts_told, told_answer, told_answers}
 pub use Rattle.script_threads.specs.declared.crowd.Started.{Started}

@@ -62,17 +62,13 @@ pub record IsServedFrom (graph : Basis) (start : ServiceState) (script : Script)
 abbrev pub IsServedOnThreads : Device → Script → RunReplies → Type 0
 IsServedOnThreads device script answered = IsServedFrom (own_graph device) (empty_service device) script (map section_of answered.sections.items) answered.operator.items
 
--- private: the jobs that are left make their steps, the operator's other lines are served by the
--- service after that, and their text follows the reply so far
-pub record Ends (graph : Basis) (names : List (List ℕ)) (settled : ServiceState) (rest : List (OperatorLine (List ℕ))) (before after : List ℕ) : Type 0 where
+-- private: the sessions run, the jobs that are left make their steps, and the service after that
+-- serves the operator's other lines; their text follows the reply so far
+pub record RunsOn (graph : Basis) (names : List (List ℕ)) (begun : ServiceState) (sessions : List Said) (rest : List (OperatorLine (List ℕ))) (sections : List Section) (before after : List ℕ) : Type 0 where
+  pub settled : ServiceState
+  pub ran : Ran names begun sessions sections settled
   pub rested : ServiceState
   pub left : MakesSteps graph settled rested
   pub last_names : List (List ℕ)
   pub last : ServiceState
   pub replies : Replies graph names rested rest before after last_names last
-
--- private: the sessions run before that
-pub record RunsOn (graph : Basis) (names : List (List ℕ)) (begun : ServiceState) (sessions : List Said) (rest : List (OperatorLine (List ℕ))) (sections : List Section) (before after : List ℕ) : Type 0 where
-  pub settled : ServiceState
-  pub ran : Ran names begun sessions sections settled
-  pub ends : Ends graph names settled rest before after

@@ -1,6 +1,6 @@
 //! Sessions on threads, beside the workers.
 
-ghost use Rattle.std.specs.Prelude.{◌≡◌, ◌++◌, ◌∷◌, All, IfSome, IsSomeAnd, IsTrue, Some, [], map};
+ghost use Rattle.std.specs.Prelude.{◌≡◌, ◌++◌, ◌∷◌, All, IfSome, IsSomeAnd, IsTrue, [], map};
 ghost use Rattle.script_threads.specs.Prelude.{said_by};
 ghost use Rattle.script_threads.specs.Parts.{started_by};
 ghost use Rattle.script_threads.specs.Seats.{asked_by};
@@ -17,7 +17,7 @@ use std::sync::ledger::Ledger;
 use std::thread;
 use std::thread::{Promise, PromisedHandle, Scope, Threads};
 use std::time::Clock;
-use worker_pool::{Pool, Worker, join_workers, start_workers};
+use worker_pool::{Pool, join_workers, start_workers};
 
 /// A session that was answered at once, or that runs on a thread of its own.
 #[derive(Drop)]
@@ -87,80 +87,17 @@ fn run_in<
     let alloc = pool.rt.alloc();
     let mut workers = Vec::new(alloc);
     let mut started = Vec::new(alloc);
-    let are_started = start_all(scope, pool, benches, sessions, &mut workers, &mut started);
+    let (seats, shares) = benches;
+    let (passes, seated) = sessions;
+    let are_started = start_workers(scope, pool, seats, shares, &mut workers)
+        && start_sessions(scope, pool, passes, seated, &mut started);
     let parts = join_sessions(pool.rt, started);
     pool.ready.close();
     let shares = join_workers(pool.rt, workers);
-    all_ended(are_started, parts, shares)
-}
-
-/// Starts the workers, and then the sessions. Returns whether all were started or answered.
-fn start_all<
-    's,
-    't: 's,
-    E,
-    C: Begun + Send + Sync + 's,
-    P: Ledger + Send + Sync + 's,
-    R: Wait + Clock + AllocGlobal + Sync + 's,
->(
-    scope: &Scope<'s, E>,
-    pool: Pool<'s, R, C, P>,
-    benches: (Vec<Seat>, Vec<Share<P>>),
-    sessions: (Vec<Pass>, Vec<Seated<'t, C>>),
-    workers: &mut Vec<Worker<P>>,
-    started: &mut Vec<Started<'t, C>>,
-) -> bool
-    requires seats { All (λ s. s.of ≡ pool.ready.now) benches.0.items }
-    requires passes { All (λ p. p.of ≡ pool.ready.now) sessions.0.items }
-    ensures { IsTrue result → map started_by started.new.items
-        ≡ map started_by started.old.items ++ sessions.entry.1.items }
-{
-    let (seats, shares) = benches;
-    let (passes, seated) = sessions;
-    if !start_workers(scope, pool, seats, shares, workers) {
-        drop(passes);
-        drop(seated);
-        return false;
-    }
-    start_sessions(scope, pool, passes, seated, started)
-}
-
-/// The parts and the shares. None if one didn't start or memory ran out.
-fn all_ended<'t, C: Begun, P: Ledger>(
-    are_started: bool,
-    parts: Option<Vec<Part<'t, C>>>,
-    shares: Option<Vec<Share<P>>>,
-) -> Option<(Vec<Part<'t, C>>, Vec<Share<P>>)>
-    ensures { IfSome result (λ ended. IsTrue are_started × parts.entry ≡ Some ended.0) }
-{
     if !are_started {
-        drop(parts);
-        drop(shares);
         return None;
     }
-    match parts {
-        Some(parts) => with_shares(parts, shares),
-        None => {
-            drop(shares);
-            None
-        }
-    }
-}
-
-/// The parts and the shares. None if there are no shares.
-fn with_shares<'t, C: Begun, P: Ledger>(
-    parts: Vec<Part<'t, C>>,
-    shares: Option<Vec<Share<P>>>,
-) -> Option<(Vec<Part<'t, C>>, Vec<Share<P>>)>
-    ensures { IfSome result (λ ended. ended.0 ≡ parts.entry) }
-{
-    match shares {
-        Some(shares) => Some((parts, shares)),
-        None => {
-            drop(parts);
-            None
-        }
-    }
+    Some((parts?, shares?))
 }
 
 /// Starts the sessions, and answers those of names that aren't live. Returns whether all were
@@ -184,55 +121,21 @@ fn start_sessions<
         ≡ map started_by started.old.items ++ seated.entry.items }
 {
     let mut passes = passes;
-    let mut are_started = true;
     for seat in seated {
-        are_started = start_next(scope, pool, &mut passes, seat, started, are_started);
-    }
-    drop(passes);
-    are_started
-}
-
-/// Starts a session, or answers it, if those before were. Returns whether it was.
-fn start_next<
-    's,
-    't: 's,
-    E,
-    C: Begun + Send + Sync + 's,
-    P: Ledger + Send + Sync + 's,
-    R: Wait + AllocGlobal + Sync + 's,
->(
-    scope: &Scope<'s, E>,
-    pool: Pool<'s, R, C, P>,
-    passes: &mut Vec<Pass>,
-    seat: Seated<'t, C>,
-    started: &mut Vec<Started<'t, C>>,
-    goes_on: bool,
-) -> bool
-    requires { All (λ p. p.of ≡ pool.ready.now) passes.old.items }
-    ensures passes { All (λ p. p.of ≡ pool.entry.ready.now) passes.new.items }
-    ensures goes_on { IsTrue result → IsTrue goes_on }
-    ensures started { IsTrue result → map started_by started.new.items
-        ≡ map started_by started.old.items ++ seat.entry ∷ [] }
-{
-    // A session that runs but isn't joined would find the queue closed, and its job would never be
-    // stepped.
-    if !goes_on || started.reserve(1).is_err() {
-        drop(seat);
-        return false;
-    }
-    match a_pass(passes, pool.ready) {
-        Some(pass) => match start_session(scope, pool, pass, seat) {
-            Some(session) => {
-                started.push(session).unwrap();
-                true
-            }
-            None => false,
-        },
-        None => {
-            drop(seat);
-            false
+        // A session that runs but isn't joined would find the queue closed, and its job would never
+        // be stepped.
+        if started.reserve(1).is_err() {
+            return false;
         }
+        let Some(pass) = a_pass(&mut passes, pool.ready) else {
+            return false;
+        };
+        let Some(session) = start_session(scope, pool, pass, seat) else {
+            return false;
+        };
+        started.push(session).unwrap();
     }
+    true
 }
 
 /// Starts a session, or answers it if its name isn't live.
@@ -262,18 +165,9 @@ fn start_session<
                 ensures { IfSome result (λ part.
                     asked_in part ≡ asked_by (said_by said.entry) lease.id) }
             { run_part(pool, pass, said, lease) };
-            match scope.spawn_with(kept, run) {
-                Ok(thread) => Some(Started::Runs(thread)),
-                Err(error) => {
-                    drop(error);
-                    None
-                }
-            }
+            Some(Started::Runs(scope.spawn_with(kept, run).ok()?))
         }
-        None => match evicted_part(pool.rt.alloc(), said, id) {
-            Ok(part) => Some(Started::Answered(part)),
-            Err(_) => None,
-        },
+        None => Some(Started::Answered(evicted_part(pool.rt.alloc(), said, id).ok()?)),
     }
 }
 
@@ -313,35 +207,7 @@ fn with_part<'t, C: Begun>(
         IsSomeAnd parts.entry (λ old.
         IsSomeAnd part.entry (λ p. all.items ≡ old.items ++ p ∷ []))) }
 {
-    match parts {
-        Some(parts) => with_last(parts, part),
-        None => {
-            drop(part);
-            None
-        }
-    }
-}
-
-/// The parts, and after them that one, if there is one.
-fn with_last<'t, C: Begun>(
-    parts: Vec<Part<'t, C>>,
-    part: Option<Part<'t, C>>,
-) -> Option<Vec<Part<'t, C>>>
-    ensures { IfSome result (λ all.
-        IsSomeAnd part.entry (λ p. all.items ≡ parts.entry.items ++ p ∷ [])) }
-{
-    let mut parts = parts;
-    match part {
-        Some(part) => match parts.push(part) {
-            Ok(()) => Some(parts),
-            Err(refused) => {
-                drop((parts, refused));
-                None
-            }
-        },
-        None => {
-            drop(parts);
-            None
-        }
-    }
+    let mut parts = parts?;
+    parts.push(part?).ok()?;
+    Some(parts)
 }

@@ -1,13 +1,12 @@
 //! The answers to the sessions, after they and the workers have ended.
-ghost use Rattle.std.specs.Prelude.{◌≡◌, List, [], true, length, map, IfOk, OnOk};
+ghost use Rattle.std.specs.Prelude.{◌≡◌, true, length, map, IfOk, OnOk};
 ghost use Rattle.script_threads.specs.Prelude.{section_of};
 ghost use Rattle.script_threads.specs.Parts.{Adds, AreParts, Finishes};
-ghost use Rattle.script_threads.specs.Sessions.{PartState};
 
 use crate::part::Part;
 use crate::refusals::first_served_late;
 use crate::unserved::Unserved;
-use script_text::{SessionInput, SessionReplies};
+use script_text::SessionReplies;
 use service_core::Service;
 use settling::{Cause, settle};
 use shared_core::{Begun, Core, Share};
@@ -22,8 +21,9 @@ struct Parted<'t, C: Begun> {
     transcripts: Vec<Transcript<C>>,
 }
 
-/// Settles the answers to the sessions that ran. Returns the service, and the answers to each
-/// name's session.
+/// Settles the answers to the sessions that ran, by the transcripts. Returns the service, and the
+/// answers to each name's session. They aren't settled if a command is served after one that found
+/// its journal full.
 pub(crate) fn finish<'t, C: Begun, P: Ledger>(
     alloc: Global,
     core: Core<C, P>,
@@ -35,44 +35,16 @@ pub(crate) fn finish<'t, C: Begun, P: Ledger>(
         r.0) }
     ensures even { IfOk result (λ r. length (r.0).histories ≡ length C.begun.histories) }
 {
-    match part_all(alloc, parts) {
-        Ok(parted) => settle_answers(core, parted, shares),
-        Err(error) => {
-            drop((core, shares));
-            Err(Unserved::from(error))
-        }
-    }
-}
-
-/// Settles the answers by the transcripts. Returns the service, and the answers to each name's
-/// session. They aren't settled if a command is served after one that found its journal full.
-fn settle_answers<'t, C: Begun, P: Ledger>(
-    core: Core<C, P>,
-    parted: Parted<'t, C>,
-    shares: Vec<Share<P>>,
-) -> Result<(Service, Vec<SessionReplies<'t>>), Unserved>
-    requires { C.stay ≡ true }
-    ensures ok { (parts : List PartState) →
-        AreParts (C.stay ≡ true) parts (map section_of parted.entry.sections.items)
-        parted.entry.transcripts.items
-        → IfOk result (λ r. Finishes C.begun parts (map section_of r.1.items) r.0) }
-    ensures even { IfOk result (λ r. length (r.0).histories ≡ length C.begun.histories) }
-{
     let Parted {
         sections,
         transcripts,
-    } = parted;
+    } = part_all(alloc, parts)?;
     if let Some(id) = first_served_late(&transcripts) {
-        drop((core, transcripts, shares, sections));
         return Err(Unserved::NotSettled(Cause::NotFull { id }));
     }
     match settle(core, transcripts, shares) {
         Ok(settled) => Ok((settled.into_service(), sections)),
-        Err(not_settled) => {
-            let cause = not_settled.cause;
-            drop((not_settled, sections));
-            Err(Unserved::NotSettled(cause))
-        }
+        Err(not_settled) => Err(Unserved::NotSettled(not_settled.cause)),
     }
 }
 
@@ -89,28 +61,13 @@ fn part_all<'t, C: Begun>(
         sections: Vec::new(alloc),
         transcripts: Vec::new(alloc),
     };
-    match parted.add_all(parts) {
-        Ok(()) => Ok(parted),
-        Err(error) => {
-            drop(parted);
-            Err(error)
-        }
+    for part in parts {
+        parted.add(part)?;
     }
+    Ok(parted)
 }
 
 impl<'t, C: Begun> Parted<'t, C> {
-    /// Adds the answers to the sessions, if nothing was added before.
-    fn add_all(&mut self, parts: Vec<Part<'t, C>>) -> Result<(), AllocError>
-        requires { (self.old.sections.items ≡ []) × (self.old.transcripts.items ≡ []) }
-        ensures { OnOk result (AreParts (C.stay ≡ true) parts.entry.items
-            (map section_of self.new.sections.items) self.new.transcripts.items) }
-    {
-        for part in parts {
-            self.add(part)?;
-        }
-        Ok(())
-    }
-
     /// Adds the answers to a session, and its transcript, if it ran.
     fn add(&mut self, part: Part<'t, C>) -> Result<(), AllocError>
         ensures { OnOk result (Adds (C.stay ≡ true) part.entry
@@ -123,12 +80,13 @@ impl<'t, C: Begun> Parted<'t, C> {
             text,
             transcript,
         } = part;
-        let SessionInput { name, input } = said;
-        drop(input);
         if let Some(transcript) = transcript {
             self.transcripts.push(transcript)?;
         }
-        self.sections.push(SessionReplies { name, text })?;
+        self.sections.push(SessionReplies {
+            name: said.name,
+            text,
+        })?;
         Ok(())
     }
 }

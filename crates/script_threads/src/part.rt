@@ -1,9 +1,8 @@
 //! The answers to one name's session.
-ghost use Rattle.std.specs.Prelude.{◌≡◌, ◌++◌, [], false, IfOk, IfSome, OnOk};
-ghost use Rattle.std.specs.List.{flat_map};
+ghost use Rattle.std.specs.Prelude.{◌≡◌, ◌++◌, false, IfOk, IfSome, OnOk};
 ghost use Rattle.script_threads.specs.Prelude.{said_by, sink_text, session_refusal_text};
 ghost use Rattle.script_threads.specs.Seats.{asked_by};
-ghost use Rattle.script_threads.specs.Sessions.{asked_in, evicted_line, evicted_refusal, evicted_text};
+ghost use Rattle.script_threads.specs.Sessions.{asked_in, evicted_refusal};
 
 use job_queue::Pass;
 use line_text::{MemorySink, MemorySource};
@@ -66,17 +65,14 @@ pub(crate) fn run_part<'t, C: Begun, P: Ledger, R: Wait + AllocGlobal>(
     };
     let transcript = run_session(context, pass, lease, &mut reader, &mut writer);
     if transcript.end() == Some(SessionEnd::Ended) {
-        let text = writer.into_bytes();
-        Some(Part {
+        return Some(Part {
             said,
             id,
-            text,
+            text: writer.into_bytes(),
             transcript: Some(transcript),
-        })
-    } else {
-        drop((transcript, writer, said));
-        None
+        });
     }
+    None
 }
 
 /// The part of a name that isn't live: each item is answered its own refusal, or that the tenancy
@@ -89,44 +85,17 @@ pub(crate) fn evicted_part<'t, C: Begun>(
     ensures { IfOk result (λ part. asked_in part
         ≡ record (asked_by (said_by said.entry) id) { live = false }) }
 {
-    match evicted_text(alloc, said.input.as_slice()) {
-        Ok(text) => Ok(Part {
-            said,
-            id,
-            text,
-            transcript: None,
-        }),
-        Err(error) => {
-            drop(said);
-            Err(error)
-        }
-    }
-}
-
-/// The answers to the items of an input if the tenancy isn't live.
-fn evicted_text(alloc: Global, input: &[u8]) -> Result<Vec<u8>, AllocError>
-    ensures { IfOk result (λ text. text.items ≡ evicted_text input.now) }
-{
-    let items = read_items(alloc, input)?;
+    let items = read_items(alloc, said.input.as_slice())?;
     let mut text = MemorySink::new(alloc);
-    match tell_all(&mut text, items) {
-        Ok(()) => Ok(text.into_bytes()),
-        Err(error) => {
-            drop(text);
-            Err(error)
-        }
-    }
-}
-
-/// Appends the answers to these items, if nothing was answered before.
-fn tell_all(text: &mut MemorySink, items: Vec<SessionLine>) -> Result<(), AllocError>
-    requires { sink_text text.old ≡ [] }
-    ensures { OnOk result (sink_text text.new ≡ flat_map evicted_line items.items) }
-{
     for item in items {
-        tell(text, refusal_of(item))?;
+        tell(&mut text, refusal_of(item))?;
     }
-    Ok(())
+    Ok(Part {
+        said,
+        id,
+        text: text.into_bytes(),
+        transcript: None,
+    })
 }
 
 /// Appends the line of a refusal.
@@ -134,10 +103,7 @@ fn tell(text: &mut MemorySink, refusal: SessionRefusal) -> Result<(), AllocError
     ensures { OnOk result (sink_text text.new ≡ sink_text text.old
         ++ session_refusal_text refusal) }
 {
-    match write_session_refusal(text, refusal) {
-        Ok(()) => Ok(()),
-        Err(_) => Err(AllocError),
-    }
+    write_session_refusal(text, refusal).or(Err(AllocError))
 }
 
 /// Why an item isn't served if the tenancy isn't live.
@@ -146,9 +112,6 @@ fn refusal_of(item: SessionLine) -> SessionRefusal
 {
     match item {
         SessionLine::Refused(refusal) => refusal,
-        item => {
-            drop(item);
-            SessionRefusal::Evicted
-        }
+        _ => SessionRefusal::Evicted,
     }
 }

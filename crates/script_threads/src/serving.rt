@@ -1,7 +1,7 @@
 //! A whole script.
 ghost use Rattle.std.specs.Prelude.{◌≡◌, ◌≤◌, [], length, map, IfOk};
-ghost use Rattle.script_threads.specs.Prelude.{MAX_WORKERS, sink_text, section_of, named_operator, AreApart, parts_of, said_by, IsDevice, own_graph};
-ghost use Rattle.script_threads.specs.Served.{Ends, IsServedFrom, IsServedOnThreads, RunsOn};
+ghost use Rattle.script_threads.specs.Prelude.{MAX_WORKERS, sink_text, section_of, named_operator, AreApart, parts_of, said_by, IsDevice};
+ghost use Rattle.script_threads.specs.Served.{IsServedFrom, IsServedOnThreads, RunsOn};
 
 use crate::left_jobs::end_jobs;
 use crate::operator_lines::serve_lines;
@@ -34,44 +34,14 @@ pub fn serve_on_threads<'t, R: Threads + Wait + Clock + AllocGlobal + Sync>(
     ensures ok { IfOk result (λ answered.
         IsServedOnThreads device (parts_of script.entry) answered) }
 {
-    match device_graph(rt.alloc(), &device) {
-        Ok(graph) => {
-            let setup = Setup {
-                rt,
-                workers,
-                graph: &graph,
-            };
-            let answered = serve_over(&setup, device, script);
-            drop(graph);
-            answered
-        }
-        Err(error) => {
-            drop(device);
-            drop(script);
-            Err(Unserved::from(error))
-        }
-    }
-}
-
-/// Serves the script over the device's graph.
-fn serve_over<'t, R: Threads + Wait + Clock + AllocGlobal + Sync>(
-    setup: &Setup<'_, R>,
-    device: Device,
-    script: ThreadedScript<'t>,
-) -> Result<RunReplies<'t>, Unserved>
-    requires apart { AreApart (map said_by script.sessions.items) }
-    requires device { IsDevice device }
-    requires own { setup.now.graph.now ≡ own_graph device }
-    ensures ok { IfOk result (λ answered.
-        IsServedOnThreads device (parts_of script.entry) answered) }
-{
-    match Service::new(setup.rt.alloc(), device) {
-        Ok(service) => serve_script(setup, service, script),
-        Err(error) => {
-            drop(script);
-            Err(Unserved::from(error))
-        }
-    }
+    let graph = device_graph(rt.alloc(), &device)?;
+    let setup = Setup {
+        rt,
+        workers,
+        graph: &graph,
+    };
+    let service = Service::new(rt.alloc(), device)?;
+    serve_script(&setup, service, script)
 }
 
 /// Serves a script by a service without tenancies.
@@ -86,65 +56,26 @@ fn serve_script<'t, R: Threads + Wait + Clock + AllocGlobal + Sync>(
         IsServedFrom setup.now.graph.now service (parts_of script.entry)
         (map section_of answered.sections.items) answered.operator.items) }
 {
-    let alloc = setup.rt.alloc();
-    let mut operator = Operator::new(alloc);
-    let mut reply = MemorySink::new(alloc);
-    let served = serve_parts(setup, &mut operator, service, script, &mut reply);
-    drop(operator);
-    match served {
-        Ok(sections) => Ok(RunReplies {
-            operator: reply.into_bytes(),
-            sections,
-        }),
-        Err(unserved) => {
-            drop(reply);
-            Err(unserved)
-        }
-    }
-}
-
-/// Serves the parts of a script, and appends the answers to the operator. Returns the answers to
-/// each name's session.
-fn serve_parts<'t, R: Threads + Wait + Clock + AllocGlobal + Sync>(
-    setup: &Setup<'_, R>,
-    operator: &mut Operator<'t>,
-    service: Service,
-    script: ThreadedScript<'t>,
-    reply: &mut MemorySink,
-) -> Result<Vec<SessionReplies<'t>>, Unserved>
-    requires apart { AreApart (map said_by script.sessions.items) }
-    requires unused { service.histories ≡ [] }
-    requires names { operator.old ≡ [] }
-    requires reply { sink_text reply.old ≡ [] }
-    ensures ok { IfOk result (λ sections.
-        IsServedFrom setup.now.graph.now service (parts_of script.entry)
-        (map section_of sections.items) (sink_text reply.new)) }
-{
     let ThreadedScript {
         ahead,
         sessions,
         rest,
     } = script;
-    let mut service = service;
-    match serve_lines(
-        setup.rt.alloc(),
-        setup.graph,
-        operator,
-        &mut service,
-        ahead,
-        reply,
-    ) {
-        Ok(()) => serve_sessions(setup, operator, service, sessions, rest, reply),
-        Err(error) => {
-            drop(service);
-            drop(sessions);
-            drop(rest);
-            Err(Unserved::from(error))
-        }
-    }
+    let alloc = setup.rt.alloc();
+    let graph = setup.graph;
+    let mut core = service;
+    let mut operator = Operator::new(alloc);
+    let mut reply = MemorySink::new(alloc);
+    serve_lines(alloc, graph, &mut operator, &mut core, ahead, &mut reply)?;
+    let sections = serve_sessions(setup, &mut operator, core, sessions, rest, &mut reply)?;
+    Ok(RunReplies {
+        operator: reply.into_bytes(),
+        sections,
+    })
 }
 
-/// Runs each name's session, and serves the operator's other lines.
+/// Runs each name's session, ends the jobs that are left, and serves the operator's other lines.
+/// Returns the answers to the sessions.
 fn serve_sessions<'t, R: Threads + Wait + Clock + AllocGlobal + Sync>(
     setup: &Setup<'_, R>,
     operator: &mut Operator<'t>,
@@ -163,40 +94,11 @@ fn serve_sessions<'t, R: Threads + Wait + Clock + AllocGlobal + Sync>(
 {
     let commands = Blank::new(65_536);
     let puts = Blank::new(17);
-    match run_sessions::<Brand, Brand, R>(setup, operator, service, commands, puts, sessions) {
-        Ok((service, sections)) => serve_rest(setup, operator, service, sections, rest, reply),
-        Err(unserved) => {
-            drop(rest);
-            Err(unserved)
-        }
-    }
-}
-
-/// Ends the jobs that are left, and serves the operator's other lines. Returns the answers to the
-/// sessions.
-fn serve_rest<'t, R: AllocGlobal>(
-    setup: &Setup<'_, R>,
-    operator: &mut Operator<'t>,
-    service: Service,
-    sections: Vec<SessionReplies<'t>>,
-    rest: Vec<OperatorLine<&'t [u8]>>,
-    reply: &mut MemorySink,
-) -> Result<Vec<SessionReplies<'t>>, Unserved>
-    requires { length operator.old ≡ length service.histories }
-    ensures ok { IfOk result (λ told. (told.items ≡ sections.entry.items)
-        × Ends setup.now.graph.now operator.old service (map named_operator rest.entry.items)
-        (sink_text reply.old) (sink_text reply.new)) }
-{
-    let graph = setup.graph;
-    let mut service = service;
-    end_jobs(graph, &mut service);
-    let served = serve_lines(setup.rt.alloc(), graph, operator, &mut service, rest, reply);
-    drop(service);
-    match served {
-        Ok(()) => Ok(sections),
-        Err(error) => {
-            drop(sections);
-            Err(Unserved::from(error))
-        }
-    }
+    let (mut core, sections) = run_sessions::<Brand, Brand, R>(
+        setup, operator, service, commands, puts, sessions,
+    )?;
+    end_jobs(setup.graph, &mut core);
+    let alloc = setup.rt.alloc();
+    serve_lines(alloc, setup.graph, operator, &mut core, rest, reply)?;
+    Ok(sections)
 }

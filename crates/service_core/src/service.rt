@@ -65,17 +65,13 @@ impl Drop for Service {
     fn drop(self) {
         let Service {
             alloc: _,
-            arch,
+            arch: _,
             rows: _,
-            layout,
-            tenancies,
-            book,
+            layout: _,
+            tenancies: _,
+            book: _,
             text_limit: _,
         } = self;
-        drop(arch);
-        drop(layout);
-        drop(tenancies);
-        drop(book);
     }
 }
 
@@ -213,10 +209,7 @@ impl Service {
         if self.tenancies.len() == MAX_ADMISSIONS {
             return Err(OpRefusal::IdsSpent);
         }
-        match self.layout.first_fit(width) {
-            Some(offset) => Ok(offset),
-            None => Err(OpRefusal::NoRoom),
-        }
+        self.layout.first_fit(width).ok_or(OpRefusal::NoRoom)
     }
 
     /// Ends a tenancy. Its strip is free again, and its journal stays. Refused if the tenancy isn't
@@ -326,13 +319,9 @@ impl Service {
             drop(done.park());
             return Ok(PutReply::Full);
         }
-        match tenancy.put(done, origin) {
-            Ok(reply) => {
-                claim(&mut self.book, id, offset, tenancy, reply);
-                Ok(PutReply::Recorded(reply))
-            }
-            Err(back) => Err(back),
-        }
+        let reply = tenancy.put(done, origin)?;
+        claim(&mut self.book, id, offset, tenancy, reply);
+        Ok(PutReply::Recorded(reply))
     }
 
     /// Takes back a job that wasn't stepped, or whose step couldn't be put. If it is the next step

@@ -78,10 +78,7 @@ impl<C: Begun> Session<C> {
     {
         let mut session = self;
         session.push_ready(rt, shared, ready);
-        let Session {
-            pass: _,
-            mut transcript,
-        } = session;
+        let Session { mut transcript, .. } = session;
         transcript.finish(end);
         transcript
     }

@@ -62,10 +62,8 @@ impl PendingText {
         ensures { IfOk result (λ line. line ≡ text_item self.kind (Some self.bytes)) }
     {
         let PendingText { kind, bytes } = self;
-        match SharedText::new(alloc, Text::new(bytes)) {
-            Ok(text) => Ok(SessionLine::Command(kind.command(text))),
-            Err(_) => Err(AllocError),
-        }
+        let text = SharedText::new(alloc, Text::new(bytes))?;
+        Ok(SessionLine::Command(kind.command(text)))
     }
 }
 

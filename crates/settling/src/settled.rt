@@ -49,8 +49,7 @@ impl Settled {
     pub fn into_service(self) -> Service
         ensures { result ≡ self.service }
     {
-        let Settled { service, marks } = self;
-        drop(marks);
+        let Settled { service, marks: _ } = self;
         service
     }
 }

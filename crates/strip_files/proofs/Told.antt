@@ -1,26 +1,16 @@
 -- Nodes that are read line by line.
-use Rattle.strip_files.proofs.Prelude.{ℕ, ◌≡◌, ◌∙◌, Bool, true, false, cond, List, [], ◌∷◌, ◌++◌, filter, ap, sym, subst, append_assoc, Result, Ok, Err, OnOk, length, refl, arith, NodeKind, RouteNode, AreTold, IsReadOn, IsReadOnAs, IsTailOf, is_node_line, kind_start}
-
-step_as : (b : Bool) (line : List ℕ) (kept : List (List ℕ)) (old new more : List RouteNode) → IsReadOnAs b line old new → AreTold kept more
-    → (rest : List RouteNode) × AreTold (cond b (line ∷ kept) kept) rest × (new ++ more ≡ old ++ rest)
-step_as true line kept old new more (read, same, told) h = (read ∷ more, (told, h), ap (λ (xs : List RouteNode). xs ++ more) same ∙ append_assoc old (read ∷ []) more)
-step_as false line kept old new more same h = (more, h, ap (λ (xs : List RouteNode). xs ++ more) same)
-
--- a line, and the nodes of the lines after it
-pub told_step : (line : List ℕ) (lines : List (List ℕ)) (old new more : List RouteNode) → IsReadOn line old new → AreTold (filter is_node_line lines) more
-    → (rest : List RouteNode) × AreTold (filter is_node_line (line ∷ lines)) rest × (new ++ more ≡ old ++ rest)
-told_step line lines old new more read h = step_as (is_node_line line) line (filter is_node_line lines) old new more read h
+use Rattle.strip_files.proofs.Prelude.{ℕ, ◌≡◌, ◌∙◌, Bool, true, false, List, [], ◌∷◌, ◌++◌, ap, sym, subst, Result, Ok, Err, OnOk, length, refl, arith, NodeKind, RouteNode, IsReadOn, IsTailOf, AddsNext, IsLineOfNode, is_node_line, kind_start}
 
 -- the line of a node, by its beginning and its end
 pub told_line : (line tail : List ℕ) (before after : List RouteNode) (kind : NodeKind) (read : RouteNode) → is_node_line line ≡ true → line ≡ kind_start kind ++ tail
     → after ≡ before ++ read ∷ [] → read.node.kind ≡ kind → IsTailOf tail read.node → IsReadOn line before after
 told_line line tail before after kind read begins text same is told =
-    subst (λ (b : Bool). IsReadOnAs b line before after) (sym begins)
+    subst (λ (b : Bool). AddsNext b (IsLineOfNode (length before) line) before after) (sym begins)
     (read, same, record { tail = tail; text = text ∙ ap (λ (k : NodeKind). kind_start k ++ tail) (sym is); told = told })
 
 -- another line
 pub other_line : (line : List ℕ) (before after : List RouteNode) → is_node_line line ≡ false → after ≡ before → IsReadOn line before after
-other_line line before after none same = subst (λ (b : Bool). IsReadOnAs b line before after) (sym none) same
+other_line line before after none same = subst (λ (b : Bool). AddsNext b (IsLineOfNode (length before) line) before after) (sym none) same
 
 -- a success implies any weaker fact
 pub on_ok : {A E : Type 0} (r : Result A E) (P Q : Type 0) → (P → Q) → OnOk r P → OnOk r Q

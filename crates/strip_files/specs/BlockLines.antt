@@ -64,9 +64,13 @@ IsElementReadOn line old new = AddsNext (is_element_line line) (IsLineOfElement 
 abbrev pub listed_names : List ListedBlock → List (BlockKind × List ℕ)
 listed_names blocks = map (λ block. (block.kind, block.name.now)) blocks
 
+-- private: the block as the `.net` file lists it
+abbrev pub listed_of : PlacedBlock → ListedBlock
+listed_of block = record { kind = block.kind; name = block.name; first_element = block.first_element }
+
 -- private: these are the first of the listed blocks
-abbrev pub AreFirstNamed : List ListedBlock → List PlacedBlock → Type 0
-AreFirstNamed listed blocks = named_blocks blocks ≡ take (length blocks) (listed_names listed)
+abbrev pub AreFirst : List ListedBlock → List PlacedBlock → Type 0
+AreFirst listed blocks = map listed_of blocks ≡ take (length blocks) listed
 
 -- private: the line's block is read
 abbrev pub IsBlockReadOn : List ℕ → List ListedBlock → List ListedBlock → Type 0

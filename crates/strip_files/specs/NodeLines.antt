@@ -1,7 +1,8 @@
 -- The lines of nodes in a `.route` file, and their nodes.
-use Rattle.std.specs.Prelude.{ℕ, ◌≡◌, Bool, true, false, List, [], ◌∷◌, ◌++◌, filter, codes, eqb, Some, ⊤}
+use Rattle.std.specs.Prelude.{ℕ, ◌≡◌, Bool, List, [], ◌∷◌, ◌++◌, filter, length, codes, eqb, Some}
 use Rattle.std.specs.List.{list_any, starts_with}
 use Rattle.strip_files.specs.Prelude.{decimal_of, physical_lines, Node, NodeKind, Source, Sink, Opin, Ipin, ChanX, ChanY}
+use Rattle.strip_files.specs.EachLine.{AddsNext, AreEachFrom}
 use Rattle.strip_files.specs.declared.node_line.Counted.{Counted}
 use Rattle.strip_files.specs.declared.node_line.Counted.TheVariants.{Tracks, Pins, Pads, Classes}
 use Rattle.strip_files.specs.declared.route_node.RouteNode.{RouteNode}
@@ -50,17 +51,14 @@ pub record IsNodeLine (line : List ℕ) (node : Node) : Type 0 where
 abbrev pub node_lines : List ℕ → List (List ℕ)
 node_lines text = filter is_node_line (physical_lines text)
 
+-- the line of that node
+abbrev pub IsLineOfNode : ℕ → List ℕ → RouteNode → Type 0
+IsLineOfNode number line read = IsNodeLine line read.node
+
 -- each of the lines is that of one of the nodes, in order
 abbrev pub AreTold : List (List ℕ) → List RouteNode → Type 0
-AreTold [] [] = ⊤
-AreTold [] (read ∷ others) = ⊥
-AreTold (line ∷ lines) [] = ⊥
-AreTold (line ∷ lines) (read ∷ others) = IsNodeLine line read.node × AreTold lines others
+AreTold lines nodes = AreEachFrom IsLineOfNode 0 lines nodes
 
--- after a node's line there is its node, after another line nothing new
-abbrev pub IsReadOnAs : Bool → List ℕ → List RouteNode → List RouteNode → Type 0
-IsReadOnAs true line old new = (read : RouteNode) × (new ≡ old ++ read ∷ []) × IsNodeLine line read.node
-IsReadOnAs false line old new = new ≡ old
-
+-- private: the line's node is read
 abbrev pub IsReadOn : List ℕ → List RouteNode → List RouteNode → Type 0
-IsReadOn line old new = IsReadOnAs (is_node_line line) line old new
+IsReadOn line old new = AddsNext (is_node_line line) (IsLineOfNode (length old) line) old new

@@ -1,6 +1,6 @@
 -- Where the nodes of a net and the BLEs of a block begin, by the lines of the `.route` and the
 -- `.net` file.
-use Rattle.std.specs.Prelude.{ℕ, ◌≡◌, ◌+◌, ◌++◌, Bool, true, false, List, [], ◌∷◌, map, length, take, codes, eqb}
+use Rattle.std.specs.Prelude.{ℕ, ◌≡◌, ◌+◌, ◌++◌, Bool, true, false, List, [], ◌∷◌, map, codes, eqb}
 use Rattle.std.specs.List.{list_any, starts_with}
 use Rattle.strip_files.specs.Prelude.{physical_lines}
 use Rattle.strip_files.specs.NodeLines.{is_node_line}
@@ -54,10 +54,6 @@ AreBlocksBegun text blocks = first_elements blocks ≡ block_starts text
 -- private: the same of the blocks that a `.net` file lists
 abbrev pub listed_elements : List ListedBlock → List ℕ
 listed_elements blocks = map (λ block. block.first_element) blocks
-
--- private: these are the first of the listed blocks
-abbrev pub ArePlaced : List ListedBlock → List PlacedBlock → Type 0
-ArePlaced listed blocks = first_elements blocks ≡ take (length blocks) (listed_elements listed)
 
 -- private: what a line adds to the number of items, and to what the heads noted
 abbrev pub AddsTo : Bool → Bool → ℕ → ℕ → List ℕ → List ℕ → Type 0

@@ -29,12 +29,10 @@ pub(crate) fn check_ends(
     files: PinsAndRoutes<'_, '_>,
 ) -> Result<(), TextError<FileFault>> {
     let mut names = NameSet::new(alloc);
-    let outcome = match add_nets(&mut names, files.nets) {
-        Ok(()) => check_named(alloc, files, &names),
-        Err(error) => Err(error),
-    };
-    drop(names);
-    outcome
+    add_nets(&mut names, files.nets)?;
+    let mut users = Vec::from_elem(alloc, 0usize, files.nets.len())?;
+    count_users(files, &names, users.as_mut_slice())?;
+    check_counts(files, users.as_slice())
 }
 
 /// Adds the names of the nets, which must differ.
@@ -45,21 +43,6 @@ fn add_nets<'t>(names: &mut NameSet<'t>, nets: &[Net<'t>]) -> Result<(), TextErr
         }
     }
     Ok(())
-}
-
-/// Checks the ends, with the names of the nets.
-fn check_named(
-    alloc: Global,
-    files: PinsAndRoutes<'_, '_>,
-    names: &NameSet<'_>,
-) -> Result<(), TextError<FileFault>> {
-    let mut users = Vec::from_elem(alloc, 0usize, files.nets.len())?;
-    let outcome = match count_users(files, names, users.as_mut_slice()) {
-        Ok(()) => check_counts(files, users.as_slice()),
-        Err(error) => Err(error),
-    };
-    drop(users);
-    outcome
 }
 
 /// Counts the blocks that have each net on a pin. Each must be at an end of the net's route, if the

@@ -1,5 +1,5 @@
 //! The `.net` file: the blocks, and the BLEs of each.
-ghost use Rattle.std.specs.Prelude.{◌≡◌, ◌+◌, ◌++◌, ◌∷◌, [], length, true, false, MatchOption, OnOk};
+ghost use Rattle.std.specs.Prelude.{◌≡◌, ◌+◌, ◌++◌, ◌∷◌, [], length, true, false, IfOk, MatchOption, OnOk};
 ghost use Rattle.strip_files.specs.BlockLines.{AreElementsNamed, IsBlockReadOn, IsElementReadOn, IsLineOfBlock, block_lines, block_start, listed_names};
 ghost use Rattle.strip_files.specs.Prelude.{texts};
 ghost use Rattle.strip_files.specs.EachLine.{AreEachFrom};
@@ -38,39 +38,31 @@ pub(crate) struct Listed<'t> {
 }
 
 impl<'t> Listed<'t> {
-    /// Returns empty contents.
-    pub(crate) fn new(alloc: Global) -> Self
-        ensures blocks { result.blocks.items ≡ [] }
-        ensures elements { result.elements.items ≡ [] }
+    /// Reads the lines of a `.net` file.
+    pub(crate) fn read(alloc: Global, text: &'t [u8]) -> Result<Self, TextError<FileFault>>
+        ensures starts { IfOk result (λ listed. listed_elements listed.blocks.items
+            ≡ block_starts text.now) }
+        ensures names { IfOk result (λ listed. AreEachFrom IsLineOfBlock 0 (block_lines text.now)
+            (listed_names listed.blocks.items)) }
+        ensures elements { IfOk result (λ listed.
+            AreElementsNamed text.now listed.elements.items) }
     {
-        Listed {
+        let mut listed = Listed {
             pins: Vec::new(alloc),
             blocks: Vec::new(alloc),
             elements: Vec::new(alloc),
-        }
-    }
-
-    /// Reads the lines of a `.net` file. At a fault it has the contents before that line.
-    pub(crate) fn read(&mut self, text: &'t [u8]) -> Result<(), TextError<FileFault>>
-        requires no_blocks { self.old.blocks.items ≡ [] }
-        requires no_elements { self.old.elements.items ≡ [] }
-        ensures starts { OnOk result (listed_elements self.new.blocks.items
-            ≡ block_starts text.now) }
-        ensures names { OnOk result (AreEachFrom IsLineOfBlock 0 (block_lines text.now)
-            (listed_names self.new.blocks.items)) }
-        ensures elements { OnOk result (AreElementsNamed text.now self.new.elements.items) }
-    {
+        };
         let mut number = 0usize;
         let mut rest = text;
         while !rest.is_empty() {
             let (line, later) = split_line(rest);
             number = number.saturating_add(1);
-            if let Err(error) = self.line(line, number) {
+            if let Err(error) = listed.line(line, number) {
                 return Err(in_file(error, File::Net, number));
             }
             rest = later;
         }
-        Ok(())
+        Ok(listed)
     }
 
     /// Reads the line of that number.

@@ -1,11 +1,10 @@
 //! The `.place` file: the size of the strip, and the places of its blocks.
-ghost use Rattle.std.specs.Prelude.{◌+◌, ◌-◌, ◌≡◌, ◌≤◌, ◌++◌, ◌∷◌, ℕ, List, [], length, take, true, None, is_some, nat_lt, IfOk, IfSome, OnOk};
+ghost use Rattle.std.specs.Prelude.{◌+◌, ◌-◌, ◌≡◌, ◌≤◌, ◌++◌, ◌∷◌, ℕ, List, [], length, map, true, is_some, nat_lt, IfOk, IfSome, OnOk};
 ghost use Rattle.strip_files.specs.Prelude.{MAX_COLUMNS, MAX_ROWS, Place, is_no_digit};
-ghost use Rattle.strip_files.specs.BlockLines.{AreFirstNamed, listed_names, named_blocks};
+ghost use Rattle.strip_files.specs.BlockLines.{AreFirst, listed_of};
 ghost use Rattle.strip_files.specs.Fronts.{Stops};
 ghost use Rattle.strip_files.specs.PlaceLines.{HavePlaces, IsLineOfPlace, IsPlaceLine, IsPlaceReadOn, is_place_line, places_of};
 ghost use Rattle.strip_files.specs.SizeLines.{IsSizeRead, IsWithin, size_line};
-ghost use Rattle.strip_files.specs.Starts.{ArePlaced, first_elements, listed_elements};
 
 use crate::block::{ListedBlock, PlacedBlock};
 use crate::fault::{Fault, File, FileFault, in_file};
@@ -25,44 +24,33 @@ pub(crate) struct Placed<'t> {
 }
 
 impl<'t> Placed<'t> {
-    /// Returns empty contents.
-    pub(crate) fn new(alloc: Global) -> Self
-        ensures blocks { result.blocks.items ≡ [] }
-        ensures size { result.size ≡ None }
-    {
-        Placed {
-            size: None,
-            blocks: Vec::new(alloc),
-        }
-    }
-
-    /// Reads the lines of a `.place` file, whose blocks must be the listed ones, and returns the
-    /// strip's size. At a fault it has the contents before that line.
+    /// Reads the lines of a `.place` file, whose blocks must be the listed ones: the strip's size,
+    /// and the blocks.
     pub(crate) fn read(
-        &mut self,
+        alloc: Global,
         text: &[u8],
         listed: &[ListedBlock<'t>],
-    ) -> Result<StripSize, TextError<FileFault>>
-        requires blocks { self.old.blocks.items ≡ [] }
-        requires size { self.old.size ≡ None }
-        ensures starts { IfOk result (λ size.
-            first_elements self.new.blocks.items ≡ listed_elements listed.now) }
-        ensures names { IfOk result (λ size.
-            named_blocks self.new.blocks.items ≡ listed_names listed.now) }
-        ensures places { IfOk result (λ size. HavePlaces text.now self.new.blocks.items) }
+    ) -> Result<(StripSize, Vec<PlacedBlock<'t>>), TextError<FileFault>>
+        ensures listed { IfOk result (λ found. map listed_of found.1.items ≡ listed.now) }
+        ensures places { IfOk result (λ found. HavePlaces text.now found.1.items) }
     {
+        let mut placed = Placed {
+            size: None,
+            blocks: Vec::new(alloc),
+        };
         let mut number = 0usize;
         let mut rest = text;
         while !rest.is_empty() {
             let (line, later) = split_line(rest);
             number = number.saturating_add(1);
-            if let Err(error) = self.line(line, number, listed) {
+            if let Err(error) = placed.line(line, number, listed) {
                 return Err(in_file(error, File::Place, number));
             }
             rest = later;
         }
-        match self.size {
-            Some(size) if self.blocks.len() >= listed.len() => Ok(size),
+        let Placed { size, blocks } = placed;
+        match size {
+            Some(size) if blocks.len() >= listed.len() => Ok((size, blocks)),
             _ => Err(in_file(TextError::Fault(Fault::Unfinished), File::Place, number)),
         }
     }
@@ -74,11 +62,9 @@ impl<'t> Placed<'t> {
         number: usize,
         listed: &[ListedBlock<'t>],
     ) -> Result<(), TextError<Fault>>
-        requires starts { ArePlaced listed.now self.old.blocks.items }
-        requires names { AreFirstNamed listed.now self.old.blocks.items }
+        requires listed { AreFirst listed.now self.old.blocks.items }
         requires sized { (1 ≤ number) × (is_some self.old.size ≡ nat_lt 2 number) }
-        ensures starts { OnOk result (ArePlaced listed.now self.new.blocks.items) }
-        ensures names { OnOk result (AreFirstNamed listed.now self.new.blocks.items) }
+        ensures listed { OnOk result (AreFirst listed.now self.new.blocks.items) }
         ensures places { OnOk result (IsPlaceReadOn (number - 1) line.now self.old.blocks.items
             self.new.blocks.items) }
         ensures sized { OnOk result (is_some self.new.size ≡ nat_lt 1 number) }
@@ -105,10 +91,8 @@ impl<'t> Placed<'t> {
         line: &[u8],
         listed: &[ListedBlock<'t>],
     ) -> Result<(), TextError<Fault>>
-        requires starts { ArePlaced listed.now self.old.blocks.items }
-        requires names { AreFirstNamed listed.now self.old.blocks.items }
-        ensures starts { OnOk result (ArePlaced listed.now self.new.blocks.items) }
-        ensures names { OnOk result (AreFirstNamed listed.now self.new.blocks.items) }
+        requires listed { AreFirst listed.now self.old.blocks.items }
+        ensures listed { OnOk result (AreFirst listed.now self.new.blocks.items) }
         ensures place { OnOk result ((block : List ℕ × Place)
             × (places_of self.new.blocks.items ≡ places_of self.old.blocks.items ++ block ∷ [])
             × IsLineOfPlace (length (places_of self.old.blocks.items)) line.now block) }

@@ -1,5 +1,5 @@
 //! The three files together.
-ghost use Rattle.std.specs.Prelude.{◌≡◌, ◌+◌, [], position, None, IfOk};
+ghost use Rattle.std.specs.Prelude.{◌≡◌, ◌+◌, position, IfOk};
 ghost use Rattle.std.specs.Str.{bytes_eq};
 ghost use Rattle.strip_files.specs.BlockLines.{AreBlocksNamed, AreElementsNamed};
 ghost use Rattle.strip_files.specs.NetLines.{AreNamed};
@@ -154,92 +154,31 @@ pub fn read_strip(
     ensures elements { IfOk result (λ strip.
         AreElementsNamed texts.entry.net.now strip.elements.items) }
 {
-    let mut listed = Listed::new(alloc);
-    let mut placed = Placed::new(alloc);
-    let mut routed = Routed::new(alloc);
-    match read_all(alloc, texts, &mut listed, &mut placed, &mut routed) {
-        Ok(size) => Ok(strip_of(size, listed, placed, routed)),
-        Err(error) => {
-            drop(listed);
-            drop(placed);
-            drop(routed);
-            Err(error)
-        }
-    }
-}
-
-/// Reads the three files, and returns the strip's size.
-fn read_all<'t>(
-    alloc: Global,
-    texts: StripTexts<'t>,
-    listed: &mut Listed<'t>,
-    placed: &mut Placed<'t>,
-    routed: &mut Routed<'t>,
-) -> Result<StripSize, TextError<FileFault>>
-    requires no_nodes { routed.old.nodes.items ≡ [] }
-    requires no_nets { routed.old.nets.items ≡ [] }
-    requires no_blocks { listed.old.blocks.items ≡ [] }
-    requires no_elements { listed.old.elements.items ≡ [] }
-    requires none_placed { placed.old.blocks.items ≡ [] }
-    requires no_size { placed.old.size ≡ None }
-    ensures nodes { IfOk result (λ size. AreTold (node_lines texts.entry.route.now)
-        routed.new.nodes.items) }
-    ensures nets { IfOk result (λ size. AreBegun texts.entry.route.now routed.new.nets.items) }
-    ensures names { IfOk result (λ size. AreNamed texts.entry.route.now routed.new.nets.items) }
-    ensures blocks { IfOk result (λ size.
-        AreBlocksBegun texts.entry.net.now placed.new.blocks.items) }
-    ensures block_names { IfOk result (λ size.
-        AreBlocksNamed texts.entry.net.now placed.new.blocks.items) }
-    ensures places { IfOk result (λ size.
-        HavePlaces texts.entry.place.now placed.new.blocks.items) }
-    ensures elements { IfOk result (λ size.
-        AreElementsNamed texts.entry.net.now listed.new.elements.items) }
-{
-    listed.read(texts.net)?;
-    let size = placed.read(texts.place, &listed.blocks)?;
-    routed.read(texts.route, size)?;
-    let files = PinsAndRoutes {
-        rows: size.rows,
-        pins: &listed.pins,
-        blocks: &placed.blocks,
-        nets: &routed.nets,
-        nodes: &routed.nodes,
-    };
-    check_ends(alloc, files)?;
-    check_trees(alloc, files)?;
-    Ok(size)
-}
-
-/// What was read, as one strip.
-fn strip_of<'t>(
-    size: StripSize,
-    listed: Listed<'t>,
-    placed: Placed<'t>,
-    routed: Routed<'t>,
-) -> RoutedStrip<'t>
-    ensures nodes { result.nodes.items ≡ routed.entry.nodes.items }
-    ensures nets { result.nets.items ≡ routed.entry.nets.items }
-    ensures blocks { result.blocks.items ≡ placed.entry.blocks.items }
-    ensures elements { result.elements.items ≡ listed.entry.elements.items }
-{
     let Listed {
         pins,
-        blocks,
+        blocks: listed,
         elements,
-    } = listed;
-    drop(pins);
-    drop(blocks);
-    let Placed { blocks, size: _ } = placed;
+    } = Listed::read(alloc, texts.net)?;
+    let (size, blocks) = Placed::read(alloc, texts.place, &listed)?;
     let Routed {
         nets,
         nodes,
         section: _,
-    } = routed;
-    RoutedStrip {
+    } = Routed::read(alloc, texts.route, size)?;
+    let files = PinsAndRoutes {
+        rows: size.rows,
+        pins: &pins,
+        blocks: &blocks,
+        nets: &nets,
+        nodes: &nodes,
+    };
+    check_ends(alloc, files)?;
+    check_trees(alloc, files)?;
+    Ok(RoutedStrip {
         size,
         blocks,
         elements,
         nets,
         nodes,
-    }
+    })
 }

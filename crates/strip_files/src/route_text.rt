@@ -1,5 +1,5 @@
 //! The `.route` file: the nets, and the nodes of their routes.
-ghost use Rattle.std.specs.Prelude.{◌≡◌, ◌≤◌, ◌++◌, ◌∷◌, [], length, false, IfSome, OnOk};
+ghost use Rattle.std.specs.Prelude.{◌≡◌, ◌≤◌, ◌++◌, ◌∷◌, [], length, false, IfOk, IfSome, OnOk};
 ghost use Rattle.strip_files.specs.declared.route_text.Net.{Net};
 ghost use Rattle.strip_files.specs.declared.route_node.RouteNode.{RouteNode};
 ghost use Rattle.strip_files.specs.NetLines.{AreNamed, IsLineOfNet, IsNetLine, IsNetReadOn, word_end};
@@ -54,45 +54,35 @@ pub(crate) struct Routed<'t> {
 }
 
 impl<'t> Routed<'t> {
-    /// Returns empty contents.
-    pub(crate) fn new(alloc: Global) -> Self
-        ensures nodes { result.nodes.items ≡ [] }
-        ensures nets { result.nets.items ≡ [] }
+    /// Reads the lines of the `.route` file of a strip of that size.
+    pub(crate) fn read(
+        alloc: Global,
+        text: &'t [u8],
+        size: StripSize,
+    ) -> Result<Self, TextError<FileFault>>
+        ensures nodes { IfOk result (λ routed. AreTold (node_lines text.now) routed.nodes.items) }
+        ensures nets { IfOk result (λ routed. AreBegun text.now routed.nets.items) }
+        ensures names { IfOk result (λ routed. AreNamed text.now routed.nets.items) }
     {
-        Routed {
+        let mut routed = Routed {
             nets: Vec::new(alloc),
             nodes: Vec::new(alloc),
             section: Section::Size,
-        }
-    }
-
-    /// Reads the lines of the `.route` file of a strip of that size. At a fault it has the contents
-    /// before that line.
-    pub(crate) fn read(
-        &mut self,
-        text: &'t [u8],
-        size: StripSize,
-    ) -> Result<(), TextError<FileFault>>
-        requires nodes { self.old.nodes.items ≡ [] }
-        requires nets { self.old.nets.items ≡ [] }
-        ensures nodes { OnOk result (AreTold (node_lines text.now) self.new.nodes.items) }
-        ensures nets { OnOk result (AreBegun text.now self.new.nets.items) }
-        ensures names { OnOk result (AreNamed text.now self.new.nets.items) }
-    {
+        };
         let mut number = 0usize;
         let mut rest = text;
         while !rest.is_empty() {
             let (line, later) = split_line(rest);
             number = number.saturating_add(1);
-            if let Err(error) = self.line(line, number, size) {
+            if let Err(error) = routed.line(line, number, size) {
                 return Err(in_file(error, File::Route, number));
             }
             rest = later;
         }
-        if self.section != Section::Nets || self.is_inside_path() {
+        if routed.section != Section::Nets || routed.is_inside_path() {
             return Err(in_file(TextError::Fault(Fault::Unfinished), File::Route, number));
         }
-        Ok(())
+        Ok(routed)
     }
 
     /// Reads the line of that number.

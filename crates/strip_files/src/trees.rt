@@ -28,15 +28,8 @@ pub(crate) fn check_trees(
     files: PinsAndRoutes<'_, '_>,
 ) -> Result<(), TextError<FileFault>> {
     let mut steps = BTreeMap::new(alloc);
-    let outcome = check_nets(files, &mut steps);
-    drop(steps);
-    outcome
-}
-
-/// Checks one net after the other.
-fn check_nets(files: PinsAndRoutes<'_, '_>, steps: &mut Steps) -> Result<(), TextError<FileFault>> {
     for (number, net) in files.nets.iter().enumerate() {
-        match check_net(files.rows, nodes_of(files, number), number, steps) {
+        match check_net(files.rows, nodes_of(files, number), number, &mut steps) {
             Ok(()) => {}
             Err(TextError::NoMemory) => return Err(TextError::NoMemory),
             Err(TextError::Fault(fault)) => return Err(fault_of(File::Route, net.line, fault)),

@@ -1,10 +1,10 @@
 //! The gaps between strips.
 ghost use Rattle.std.specs.Prelude.{◌≡◌, ◌≤◌, ◌<◌, IfOk};
 ghost use Rattle.grid.specs.declared.TheConstants.{MAX_COLUMNS};
-ghost use Rattle.device_report.specs.Columns.{is_beside, is_beside_any, is_free, is_in, is_used};
+ghost use Rattle.device_report.specs.Columns.{is_free};
 ghost use Rattle.strip_moves.specs.Gaps.{begins, free_from, gap_at, gaps_of};
 
-use device_report::Room;
+use device_report::{Room, is_beside_any, is_used};
 use std::alloc::{AllocError, Global};
 use strips::PlacedStrip;
 
@@ -51,32 +51,4 @@ fn is_free(strips: &[PlacedStrip], column: u32) -> bool
     ensures { result ≡ is_free strips.now column }
 {
     !is_beside_any(strips, column) && !is_used(strips, column)
-}
-
-/// Whether a column is one of a strip's.
-fn is_used(strips: &[PlacedStrip], column: u32) -> bool
-    ensures { result ≡ is_used strips.now column }
-{
-    strips.iter().any(|strip| is_in(*strip, column))
-}
-
-/// Whether a column is right beside a strip.
-fn is_beside_any(strips: &[PlacedStrip], column: u32) -> bool
-    ensures { result ≡ is_beside_any strips.now column }
-{
-    strips.iter().any(|strip| is_beside(*strip, column))
-}
-
-/// Whether a column is one of the strip's.
-fn is_in(strip: PlacedStrip, column: u32) -> bool
-    ensures { result ≡ is_in column strip }
-{
-    strip.offset < column && column - strip.offset <= strip.width
-}
-
-/// Whether a column is right beside the strip.
-fn is_beside(strip: PlacedStrip, column: u32) -> bool
-    ensures { result ≡ is_beside column strip }
-{
-    column == strip.offset || strip.offset < column && column - strip.offset - 1 == strip.width
 }

@@ -8,7 +8,7 @@ ghost use Rattle.device_report.specs.Widest.{IsWidest};
 ghost use Rattle.strip_moves.specs.Moves.{AreAccepted, AreLeftmost, CannotMove, IsJoining, IsMoved};
 ghost use Rattle.strip_moves.specs.Settled.{IsSettled};
 
-use device_report::Room;
+use device_report::{Room, is_apart_from_all};
 use std::alloc::{AllocError, Global};
 use strips::{PlacedStrip, StripPlan};
 
@@ -97,17 +97,6 @@ fn has_room(plan: &StripPlan, columns: u32, strips: &[PlacedStrip], strip: Place
         Some(_) => false,
         None => is_apart_from_all(strips, strip),
     }
-}
-
-/// Whether a column between the strip and each of those is unused.
-fn is_apart_from_all(strips: &[PlacedStrip], strip: PlacedStrip) -> bool
-    requires strip { strip.offset + strip.width ≤ MAX_COLUMNS }
-    requires strips { All (λ s. s.offset + s.width ≤ MAX_COLUMNS) strips.now }
-    ensures { IsTrue result ↔ All (λ s. AreApart s strip) strips.now }
-{
-    strips.iter().all(|s| {
-        s.offset + s.width < strip.offset || strip.offset + strip.width < s.offset
-    })
 }
 
 /// Moves the strips from left to right, each as far to the left as it can, and returns the moves.

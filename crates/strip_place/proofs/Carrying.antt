@@ -1,45 +1,25 @@
 -- Operations on sites correspond to operations on their places.
-use Rattle.strip_place.proofs.Prelude.{◌≡◌, ℕ, ◌+◌, ◌-◌, ◌%◌, ◌<◌, All, Bool, true, false, cond, eqb, List, [], ◌∷◌, length, get_or, map, refl, sym, ap, ◌∙◌, ◌⊎◌, arith, inl, inr, eq-eqb, get_or-map, All-head, All-tail, cases_eq, ne_eqb, Strip, Kind, Logic, Place, place_at, Task, places_on, drawn_block, is_same_place, place_of, exchanged_site, AreDistinct, AreOneToOne, IsSiteFor, drawn_for, first_site, site_count, site_place, sites_of, Draw, place_after, drawn_place, after_draw, after_move, is_kept, cost_of}
+use Rattle.strip_place.proofs.Prelude.{◌≡◌, ℕ, ◌<◌, All, Bool, true, false, cond, List, [], ◌∷◌, length, get_or, map, refl, sym, ap, ◌∙◌, arith, get_or-map, All-head, All-tail, Strip, Kind, Logic, Place, place_at, Task, places_on, drawn_block, place_of, exchanged_site, AreDistinct, AreOneToOne, IsSiteFor, drawn_for, site_place, sites_of, Draw, place_after, drawn_place, after_draw, after_move, is_kept, cost_of}
 use Rattle.strip_place.proofs.Boarding.{map_itself}
-use Rattle.strip_place.proofs.KeptSites.{is_itself, told_apart}
 use Rattle.strip_place.proofs.Standing.{place_is}
 use Rattle.strip_place.proofs.Starts.{site_inside, start_inside}
 
--- the place of a drawn site is the drawn place
-past_first : (target first number : ℕ) → target ≡ first + number → target - first ≡ number
-past_first target first number is = omega (arith, is)
-
 drawn_here : (strip : Strip) (kind : Kind) (target word : ℕ) → IsSiteFor strip kind target → target ≡ drawn_for strip kind word → site_place strip target ≡ drawn_place strip kind word
-drawn_here strip kind target word inside goes = grind (arith, past_first, place_is strip kind target inside, past_first target (first_site strip kind) (word % site_count strip kind) goes)
+drawn_here strip kind target word inside goes = grind (arith, place_is strip kind target inside)
 
 module _ (strip : Strip) (distinct : AreDistinct strip) where
   abbrev pub Inside : ℕ → Type 0
   Inside site = site < length (sites_of strip)
 
-  pub test_carried : (site other : ℕ) → Inside site → Inside other → is_same_place (site_place strip site) (site_place strip other) ≡ eqb site other
-  test_carried site other lt within = by (cases_eq site other)
-    where
-      by : (site ≡ other) ⊎ (site ≡ other → ⊥) → is_same_place (site_place strip site) (site_place strip other) ≡ eqb site other
-      by (inl e) = ap (λ s. is_same_place (site_place strip s) (site_place strip other)) e ∙ is_itself (site_place strip other) ∙ sym (eq-eqb site other e)
-      by (inr ne) = told_apart (site_place strip site) (site_place strip other) (λ e. ne (distinct site other lt within (sym e))) ∙ sym (ne_eqb site other ne)
-
   chosen : (b c : Bool) (home target site : ℕ) → site_place strip (cond b target (cond c home site)) ≡ cond b (site_place strip target) (cond c (site_place strip home) (site_place strip site))
-  chosen true c home target site = refl
-  chosen false true home target site = refl
-  chosen false false home target site = refl
+  chosen b c home target site = grind arith
 
   exchange_carried : (home target site : ℕ) → Inside home → Inside target → Inside site → site_place strip (exchanged_site home target site) ≡ place_after (site_place strip home) (site_place strip target) (site_place strip site)
-  exchange_carried home target site h t s =
-      chosen (eqb site home) (eqb site target) home target site
-      ∙ ap (λ (b : Bool). cond b (site_place strip target) (cond (eqb site target) (site_place strip home) (site_place strip site))) (sym (test_carried site home s h))
-      ∙ ap (λ (b : Bool). cond (is_same_place (site_place strip site) (site_place strip home)) (site_place strip target) (cond b (site_place strip home) (site_place strip site))) (sym (test_carried site target s t))
+  exchange_carried home target site h t s = search arith
 
   map_carried : (home target : ℕ) (sites : List ℕ) → Inside home → Inside target → All Inside sites → places_on strip (map (exchanged_site home target) sites) ≡ map (place_after (site_place strip home) (site_place strip target)) (places_on strip sites)
   map_carried home target [] h t all = refl
-  map_carried home target (site ∷ sites) h t all =
-      let head = exchange_carried home target site h t (All-head Inside site sites all) in
-      let rest = map_carried home target sites h t (All-tail Inside site sites all) in
-      cc
+  map_carried home target (site ∷ sites) h t all = grind (arith, exchange_carried, All-head, map_carried home target sites h t (All-tail Inside site sites all))
 
 -- a draw that keeps its move, one that undoes it, and one to the block's own place
 draw_kept : (strip : Strip) (task : Task) (temperature : ℕ) (draw : Draw) (places : List Place) → is_kept temperature (cost_of task.nets places) (cost_of task.nets (after_move strip task draw places)) draw.a ≡ true → after_draw strip task temperature draw places ≡ after_move strip task draw places

@@ -1,5 +1,5 @@
 -- The sites of kept places.
-use Rattle.strip_place.proofs.Prelude.{ℕ, zero, suc, ◌≡◌, ◌≢◌, ◌+◌, ◌-◌, ◌<◌, inl, inr, Bool, true, false, not, cond, List, [], ◌∷◌, Option, Some, None, length, map, get_or, slice_get, refl, sym, ap, subst, ◌∙◌, arith, AllPairs, Contains, option_map, position_or_len, cases_order, nat_tests, get_or-map, length-map, get_or_from_slice_get, slice_get-get_or, slice_get_within, PackedCircuit, blocks_of, BlockKey, key_of, keys_of, Block, InputPad, OutputPad, Cluster, BlockKind, Strip, Kind, Logic, Place, kind_of, place_at, places_of, KeptPlaces, kept_place, AreKeptOn, kind_for, is_same_place, kept_sites_of, site_of, IsSiteFor, first_site, site_place, AreKeptSites}
+use Rattle.strip_place.proofs.Prelude.{ℕ, zero, suc, ◌≡◌, ◌≢◌, ◌+◌, ◌<◌, inl, inr, Bool, true, false, not, cond, List, [], ◌∷◌, Option, Some, None, length, map, get_or, slice_get, sym, ap, ◌∙◌, arith, AllPairs, Contains, option_map, position_or_len, cases_order, nat_tests, get_or-map, length-map, get_or_from_slice_get, slice_get-get_or, slice_get_within, PackedCircuit, blocks_of, BlockKey, key_of, keys_of, Block, Cluster, BlockKind, Strip, Kind, Place, kind_of, place_at, places_of, KeptPlaces, kept_place, AreKeptOn, kind_for, is_same_place, kept_sites_of, site_of, IsSiteFor, first_site, site_place, AreKeptSites}
 use Rattle.strip_place.proofs.Standing.{place_is}
 
 pub same_parts : (a b : Place) → a.x ≡ b.x → a.y ≡ b.y → a.subblock ≡ b.subblock → a ≡ b
@@ -27,31 +27,19 @@ module _ (strip : Strip) (apart : (kind : Kind) → AllPairs (λ place next. pla
   site_is kind number place is = ap (λ n. first_site strip (kind_for kind) + n) (position_at (places_of strip (kind_for kind)) number place (apart (kind_for kind)) is)
 
   pub number_of : (kind : Kind) (place : Place) → Contains (places_of strip kind) place → slice_get (places_of strip kind) (position_or_len (is_same_place place) (places_of strip kind)) ≡ Some place
-  number_of kind place there =
-      let is : slice_get (places_of strip kind) there.0 ≡ Some place = slice_get-get_or (places_of strip kind) there.0 place there.1 ∙ ap (λ (p : Place). let o : Option Place = Some p in o) there.2 in
-      ap (slice_get (places_of strip kind)) (position_at (places_of strip kind) there.0 place (apart kind) is) ∙ is
+  number_of kind place there = grind (arith, slice_get-get_or, position_at)
 
   site_for : (kind : BlockKind) (place : Place) → Contains (places_of strip (kind_for kind)) place → IsSiteFor strip (kind_for kind) (site_of strip kind place)
-  site_for kind place there =
-      let small = slice_get_within (places_of strip (kind_for kind)) _ place (number_of (kind_for kind) place there) in
-      record { from = omega arith; below = omega (arith, small) }
+  site_for kind place there = grind (arith, slice_get_within, number_of (kind_for kind) place there)
 
   pub place_back : (kind : BlockKind) (place : Place) → Contains (places_of strip (kind_for kind)) place → site_place strip (site_of strip kind place) ≡ place
-  place_back kind place there =
-      let number = position_or_len (is_same_place place) (places_of strip (kind_for kind)) in
-      let cut : site_of strip kind place - first_site strip (kind_for kind) ≡ number = omega arith in
-      place_is strip (kind_for kind) (site_of strip kind place) (site_for kind place there)
-      ∙ (ap (λ n. get_or (places_of strip (kind_for kind)) n (place_at 0 0 0)) cut
-      ∙ get_or_from_slice_get (places_of strip (kind_for kind)) number place (place_at 0 0 0) (number_of (kind_for kind) place there))
+  place_back kind place there = grind (arith, get_or_from_slice_get, place_is strip (kind_for kind) (site_of strip kind place) (site_for kind place there), number_of (kind_for kind) place there)
 
   some_of : (kind : BlockKind) (found : Option Place) (site : ℕ) → option_map (site_of strip kind) found ≡ Some site → (place : Place) × (found ≡ Some place) × (site_of strip kind place ≡ site)
-  some_of kind None site is = absurd cc
-  some_of kind (Some place) site is = (place, refl, cc)
+  some_of kind found site is = grind arith
 
   key_kind : (packed : PackedCircuit) (block : Block) → kind_for (key_of packed block).kind ≡ kind_of block
-  key_kind packed (InputPad net) = refl
-  key_kind packed (OutputPad net) = refl
-  key_kind packed (Cluster cluster) = refl
+  key_kind packed block = grind arith
 
   module _ (packed : PackedCircuit) (kept : KeptPlaces) (keys : AllPairs (λ key other. key ≢ other) (keys_of packed)) (lawful : AreKeptOn strip kept) where
     no_block : Block
@@ -91,13 +79,7 @@ module _ (strip : Strip) (apart : (kind : Kind) → AllPairs (λ place next. pla
     pub kept_lawful_by : AreKeptSites strip (map kind_of (blocks_of packed)) (kept_sites_of strip packed kept)
     kept_lawful_by = record {
       long = length-map (keys_of packed) site_by ∙ (length-map (blocks_of packed) (key_of packed) ∙ sym kinds_long);
-      by_kind = λ block site lt is.
-          (let small : block < length (blocks_of packed) = omega (arith, lt, kinds_long) in
-          let found = place_by block site small is in
-          let key = key_of packed (get_or (blocks_of packed) block no_block) in
-          let stands = site_for key.kind found.0 (lawful.by_kind key found.0 found.1) in
-          let kind : kind_for key.kind ≡ get_or (map kind_of (blocks_of packed)) block Logic = key_kind packed (get_or (blocks_of packed) block no_block) ∙ sym (get_or-map kind_of (blocks_of packed) block no_block Logic small) in
-          subst (λ (k : Kind). IsSiteFor strip k site) kind (subst (IsSiteFor strip (kind_for key.kind)) found.2 stands));
+      by_kind = grind (arith, kinds_long, place_by, site_for, get_or-map);
       apart = λ block other site lt within is also.
           (let small : block < length (blocks_of packed) = omega (arith, lt, kinds_long) in
           let second : other < length (blocks_of packed) = omega (arith, within, kinds_long) in

@@ -1,5 +1,5 @@
 -- Rows in one list, by their bounds.
-use Rattle.strip_place.proofs.Prelude.{◌≡◌, ℕ, ◌+◌, ◌-◌, ◌<◌, ◌≤◌, ◌^◌, List, [], ◌∷◌, ◌++◌, length, take, drop, get_or, refl, sym, ap, ◌∙◌, ◌⊎◌, inl, inr, arith, length-append, Some, slice_get, drop_at, drop-append-le, ext_get_or, get_or_append_left, get_or_push, length-drop, length_push, take-append-le, take_all, slice_get-get_or, get_or-map-range_with_len, length-map-range_with_len, cases_eq, AreCopied, AreSmall, row_at, rows_of, AreNets, net_at, touching_of}
+use Rattle.strip_place.proofs.Prelude.{◌≡◌, ℕ, ◌+◌, ◌-◌, ◌<◌, ◌≤◌, ◌^◌, List, [], ◌∷◌, ◌++◌, length, take, drop, get_or, sym, ap, ◌∙◌, arith, length-append, Some, slice_get, drop_at, drop-append-le, ext_get_or, get_or_append_left, get_or_push, length-drop, length_push, take-append-le, take_all, slice_get-get_or, get_or-map-range_with_len, length-map-range_with_len, AreCopied, AreSmall, row_at, rows_of, AreNets, net_at, touching_of}
 use Rattle.strip_place.proofs.Touches.{length-touching_of, touched_few, touching_at}
 
 -- a part of a list is unchanged if more numbers follow the list
@@ -23,30 +23,8 @@ module _ (rows : List (List ℕ)) (count : ℕ) (numbers bounds row : List ℕ) 
   longer : length (numbers ++ row) ≡ length numbers + length row
   longer = length-append numbers row
 
-  row_kept : (k : ℕ) → k < count → row_at (numbers ++ row) next k ≡ row_at numbers bounds k
-  row_kept k lt =
-      let is = are.within k (omega (arith, are.long)) in
-      rw (before k (omega arith), before (k + 1) (omega arith)) (part_kept numbers row (get_or bounds k 0) (get_or bounds (k + 1) 0) is.0 is.1)
-
-  row_new : row_at (numbers ++ row) next count ≡ row
-  row_new = rw (last, start) (ap (take (length (numbers ++ row) - length numbers)) (drop_at numbers row (length numbers) refl) ∙ take_all (length (numbers ++ row) - length numbers) row (omega (arith, longer)))
-
   pub copied_more : AreCopied rows (count + 1) (numbers ++ row) next
-  copied_more = record {
-    long = omega (arith, length_push bounds (length (numbers ++ row)), are.long);
-    end = last;
-    small = omega (arith, longer, are.small, short);
-    within = λ k lt. within k (omega (arith, lt, length_push bounds (length (numbers ++ row)), are.long)) (cases_eq k count);
-    each = λ k lt. each k lt (cases_eq k count);
-  }
-    where
-      within : (k : ℕ) → k < count + 1 → (k ≡ count) ⊎ (k ≡ count → ⊥) → (get_or next k 0 ≤ get_or next (k + 1) 0) × (get_or next (k + 1) 0 ≤ length (numbers ++ row))
-      within k lt (inl e) = rw e (omega (arith, start, last, longer), omega (arith, last))
-      within k lt (inr ne) = (let is = are.within k (omega (arith, are.long)) in (omega (arith, before k (omega arith), before (k + 1) (omega arith), is.0), omega (arith, before (k + 1) (omega arith), is.1, longer)))
-
-      each : (k : ℕ) → k < count + 1 → (k ≡ count) ⊎ (k ≡ count → ⊥) → row_at (numbers ++ row) next k ≡ net_at rows k
-      each k lt (inl e) = rw e (row_new ∙ sym here)
-      each k lt (inr ne) = row_kept k (omega arith) ∙ are.each k (omega arith)
+  copied_more = grind (arith, length_push, last, longer, before, part_kept, drop_at, take_all)
 
 pub copied_none : (rows : List (List ℕ)) (numbers bounds : List ℕ) → numbers ≡ [] → bounds ≡ 0 ∷ [] → AreCopied rows 0 numbers bounds
 copied_none rows numbers bounds none first = grind arith

@@ -1,8 +1,8 @@
 -- The names that this crate's proofs use, but for its own lemmas.
-pub use Rattle.std.proofs.Common.{All, Bool, Err, IfOk, List, None, Ok, Option, Result, Some, [], add-one, ap, arith, cond, drop, eq-eqb, eqb, false, filter, find, get_or, get_or-set_other, get_or-set_same, inl, inr, length, length-append, length-set, map, nat_eq, not, refl, rules, set, slice_get, subst, suc, suc-mul, sym, take, true, vec_len, zero, zero-mul, ℕ, ◌%◌, ◌&&◌, ◌*◌, ◌++◌, ◌+◌, ◌-◌, ◌/◌, ◌<◌, ◌^◌, ◌||◌, ◌∙◌, ◌∷◌, ◌≡◌, ◌≢◌, ◌≤◌, ◌⊎◌}
+pub use Rattle.std.proofs.Common.{All, Bool, Err, IfOk, List, None, Ok, Option, Result, Some, [], add-one, ap, arith, cond, drop, eq-eqb, eqb, false, filter, find, get_or, get_or-set_other, get_or-set_same, inl, inr, length, length-append, length-set, map, nat_eq, not, refl, rules, set, slice_get, subst, suc, sym, take, true, vec_len, zero, ℕ, ◌%◌, ◌&&◌, ◌*◌, ◌++◌, ◌+◌, ◌-◌, ◌/◌, ◌<◌, ◌^◌, ◌||◌, ◌∙◌, ◌∷◌, ◌≡◌, ◌≢◌, ◌≤◌, ◌⊎◌}
 pub use Rattle.std.proofs.Math.Nat.{div-mul-le_self, le_of_mul-le-mul_right, lt-div-mul-add, lt_of_mul-lt-mul_right, mul-le-mul_right}
 pub use Rattle.std.proofs.Math.Pow.{pow_mono}
-pub use Rattle.std.proofs.lemmas.Bool.{cases_eq, cases_lt, cases_order, eqb-true, leb-true, ltb-true, ne_eqb}
+pub use Rattle.std.proofs.lemmas.Bool.{cases_eq, cases_lt, cases_order, eqb-true, ne_eqb}
 pub use Rattle.std.proofs.lemmas.Bool.Decides.{nat_tests}
 pub use Rattle.std.proofs.lemmas.List.{append-nil, append_assoc, drop-append-le, drop_all, drop_at, drop_more, ext_get_or, get_or-append_right, get_or-map, get_or_append_left, get_or_default, get_or_push, get_or_read, length-drop, length-map, length_push, map-append, map_more, map_push, take-append-le, take_all, take_more}
 pub use Rattle.std.proofs.lemmas.List.Elements.{All-append, All-cons, All-filter, All-head, All-map, All-nil, All-tail, Contains-get_or, filter-append, filter_more}
@@ -18,11 +18,10 @@ pub use Rattle.std.specs.Int.Count.{count_leading_zeros}
 pub use Rattle.std.specs.List.{IsDistinct, flat_map, position_or_len, range_with_len, zip}
 pub use Rattle.std.specs.Option.{is_none, option_to_list}
 pub use Rattle.std.specs.Ordering.{eq_by_cmp}
-pub use Rattle.std.specs.Prelude.{AllPairs, Contains, count_by, max, min, nat_le, nat_lt, option_and_then, option_map, sum_by, unwrap_or}
-pub use Rattle.block_places.specs.Fits.{block_count, is_for, is_same_kind}
+pub use Rattle.std.specs.Prelude.{AllPairs, Contains, count_by, max, min, nat_le, option_and_then, option_map, sum_by, unwrap_or}
+pub use Rattle.block_places.specs.Fits.{is_for, is_same_kind}
 unfoldable pub use Rattle.block_places.specs.Fits.{fit_of}
 pub use Rattle.block_places.specs.Placed.{block_at}
-pub use Rattle.block_places.specs.declared.fit.Fit.TheVariants.{TooManyBlocks, TooManyPads}
 pub use Rattle.cluster.specs.Keys.{key_of, key_order}
 pub use Rattle.cluster.specs.PackingLaws.{IsBlockNet, IsLawfulPacking}
 pub use Rattle.cluster.specs.declared.block.Block.{Block}
@@ -34,7 +33,7 @@ pub use Rattle.kept_places.proofs.Entries.{find-in_order, tied}
 pub use Rattle.kept_places.specs.Table.{entries_of, entry_of}
 pub use Rattle.kept_places.specs.declared.table.KeptPlace.{KeptPlace}
 pub use Rattle.rows.specs.ByKey.{items_with}
-pub use Rattle.strip_place.specs.Anneal.{PlacingUnderWay, draw_of, is_past_last, one_more, places_by_block, word_of}
+pub use Rattle.strip_place.specs.Anneal.{PlacingUnderWay, draw_of, is_past_last, one_more, places_by_block}
 unfoldable pub use Rattle.strip_place.specs.Anneal.{after_words, placed_after, temperature_at}
 pub use Rattle.strip_place.specs.Boards.{Board, IsBoard, IsLawfulBoard, allowance, drawn_block, has_place, places_on, spot_of, spots_of}
 pub use Rattle.strip_place.specs.Boxes.{AreBothRenewed, AreBoxes, AreFewOf, AreRenewed, AreTouchedBy, CanRenew, IsAmong, IsBox, IsBoxBy, IsDeep, IsFollowed, IsRenewed, at_column, at_row, box_at, boxed_length, columns_at, half_after, half_of, length_after, near_of, no_box, reach_of, reached_length, rest, rows_at, with_block}

@@ -22,12 +22,8 @@ pub record HasRoom (strip : Strip) (taken : List ℕ) (blocks : List Comer) : Ty
   pub room : (kind : Kind) → needs kind blocks ≤ free strip kind taken
   pub kept : (block site : ℕ) → block < length blocks → (get_or blocks block nobody).1 ≡ Some site → is_among taken site ≡ true
 
--- the least free site of a kind, when one is needed
-least_site : (strip : Strip) (kind : Kind) (taken : List ℕ) → 1 ≤ free strip kind taken → IsLeast taken (first_site strip kind) (site_count strip kind) (least_free strip kind taken)
-least_site strip kind taken some = grind (arith, least_found)
-
 pub least_seat : (strip : Strip) (kind : Kind) (taken : List ℕ) (blocks : List Comer) → HasRoom strip taken ((kind, None) ∷ blocks) → IsLeast taken (first_site strip kind) (site_count strip kind) (least_free strip kind taken)
-least_seat strip kind taken blocks room = grind (arith, least_site)
+least_seat strip kind taken blocks room = grind (arith, least_found)
 
 -- there are still enough sites for the remaining blocks
 pub room_more : (strip : Strip) (taken : List ℕ) (block : Comer) (blocks : List Comer) → HasRoom strip taken (block ∷ blocks) → HasRoom strip (taken ++ site_for strip taken block ∷ []) blocks
@@ -69,10 +65,7 @@ sits strip taken ((kind, None) ∷ blocks) zero room lt =
     inr (refl, least.free, record { from = least.from; below = least.below })
 sits strip taken (first ∷ blocks) (suc block) room lt =
     let site = site_for strip taken first in
-    elim (sits strip (taken ++ site ∷ []) blocks block (room_more strip taken first blocks room) (omega (arith, lt))) [
-      | inl kept ↦ inl kept
-      | inr free ↦ inr (free.0, not_before taken site _ free.1, free.2)
-    ]
+    grind (arith, not_before, sits strip (taken ++ site ∷ []) blocks block (room_more strip taken first blocks room) (omega (arith, lt)))
 
 -- no two blocks keep the same site
 abbrev pub KeepApart : List Comer → Type 0
@@ -175,20 +168,14 @@ module _ (strip : Strip) (kinds : List Kind) (kept : List (Option ℕ)) (lawful 
   long = length_zip kinds kept lawful.long
 
   theirs : KeepTheirs strip (zip kinds kept)
-  theirs block site lt is =
-      let small : block < length kinds = omega (arith, lt, long) in
-      subst (λ (b : Comer). IsSiteFor strip b.0 site) (sym (zipped block small)) (lawful.by_kind block site small (sym (ap (λ (b : Comer). b.1) (zipped block small)) ∙ is))
+  theirs block site lt is = grind (arith, long, zipped)
 
   keep_apart : KeepApart (zip kinds kept)
-  keep_apart block other site in_b in_o is_b is_o =
-      let small : block < length kinds = omega (arith, in_b, long) in
-      let also : other < length kinds = omega (arith, in_o, long) in
-      lawful.apart block other site small also (sym (ap (λ (b : Comer). b.1) (zipped block small)) ∙ is_b) (sym (ap (λ (b : Comer). b.1) (zipped other also)) ∙ is_o)
+  keep_apart block other site in_b in_o is_b is_o = grind (arith, long, zipped)
 
   module _ (room : HaveRoom strip kinds) where
     all_fit : (k : Kind) → all_of k kinds ≤ site_count strip k
-    all_fit Logic = room.logic
-    all_fit Pad = room.pads
+    all_fit k = grind arith
 
     -- at the start there are enough sites
     pub room_first : HasRoom strip (kept_sites kept) (zip kinds kept)

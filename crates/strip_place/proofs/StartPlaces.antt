@@ -1,6 +1,6 @@
 -- The places at the start are the places of the sites at the start.
-use Rattle.strip_place.proofs.Prelude.{◌≡◌, ◌≢◌, ℕ, zero, suc, ◌+◌, ◌<◌, ◌≤◌, All, Bool, true, false, not, cond, ◌||◌, List, [], ◌∷◌, ◌++◌, Option, Some, None, nat_eq, find, length, get_or, map, slice_get, refl, sym, ap, ◌∙◌, arith, AllPairs, option_and_then, option_map, unwrap_or, flat_map, range_with_len, zip, option_to_list, append-nil, append_assoc, get_or-append_right, length_push, map_push, All-append, All-cons, All-head, All-nil, All-tail, nat_tests, slice_get_within, PackedCircuit, BlockKey, keys_of, Strip, Kind, Logic, Pad, Place, place_at, places_of, KeptPlaces, kept_place, places_on, has_place, AreKeptOn, kind_for, kept_sites_of, site_of, is_same_place, AreDistinct, first_site, is_among, kept_sites, least_free, seated_behind, site_count, site_place, sites_of, start_of, kept_by_block, placed_behind, placed_first, AreKeptSites, HaveRoom}
-use Rattle.strip_place.proofs.Carrying.{Inside, test_carried}
+use Rattle.strip_place.proofs.Prelude.{◌≡◌, ◌≢◌, ℕ, zero, suc, ◌+◌, ◌<◌, ◌≤◌, All, Bool, true, not, cond, List, [], ◌∷◌, ◌++◌, Option, Some, None, find, length, get_or, map, slice_get, refl, sym, ap, ◌∙◌, arith, AllPairs, option_and_then, option_map, unwrap_or, flat_map, range_with_len, zip, option_to_list, append-nil, append_assoc, get_or-append_right, length_push, map_push, All-append, All-cons, All-head, All-nil, All-tail, nat_tests, slice_get_within, PackedCircuit, BlockKey, Strip, Kind, Logic, Pad, Place, place_at, places_of, KeptPlaces, kept_place, places_on, has_place, AreKeptOn, kind_for, kept_sites_of, site_of, is_same_place, AreDistinct, first_site, is_among, kept_sites, least_free, seated_behind, site_count, site_place, sites_of, start_of, kept_by_block, placed_behind, placed_first, AreKeptSites, HaveRoom}
+use Rattle.strip_place.proofs.Carrying.{Inside}
 use Rattle.strip_place.proofs.KeptSites.{number_of, place_back, same_parts}
 use Rattle.strip_place.proofs.Seatings.{Comer, HasRoom, least_seat, long, nobody, room_first, room_more, zipped}
 use Rattle.strip_place.proofs.Starting.{kept_inside}
@@ -23,35 +23,21 @@ places_are strip Pad = grind (arith, append-nil (places_of strip Pad), numbered 
 module _ (strip : Strip) (distinct : AreDistinct strip) where
   among_carried : (taken : List ℕ) (site : ℕ) → All (Inside strip distinct) taken → Inside strip distinct site → has_place (places_on strip taken) (site_place strip site) ≡ is_among taken site
   among_carried [] site all lt = refl
-  among_carried (other ∷ taken) site all lt =
-      let head = test_carried strip distinct site other lt (All-head (Inside strip distinct) other taken all) in
-      let rest = among_carried taken site (All-tail (Inside strip distinct) other taken all) lt in
-      ap (λ (b : Bool). b || has_place (places_on strip taken) (site_place strip site)) head
-      ∙ ap (λ (b : Bool). nat_eq site other || b) rest
+  among_carried (other ∷ taken) site all lt = grind (arith, All-head, among_carried taken site (All-tail (Inside strip distinct) other taken all) lt)
 
   chosen : (b : Bool) (site : ℕ) (o : Option ℕ) → cond b (Some (site_place strip site)) (option_map (site_place strip) o) ≡ option_map (site_place strip) (cond b (Some site) o)
-  chosen true site o = refl
-  chosen false site o = refl
+  chosen b site o = grind arith
 
   find_carried : (taken : List ℕ) (start count : ℕ) → All (Inside strip distinct) taken → start + count ≤ length (sites_of strip) →
       find (λ place. not (has_place (places_on strip taken) place)) (map (site_place strip) (range_with_len start count)) ≡ option_map (site_place strip) (find (λ site. not (is_among taken site)) (range_with_len start count))
   find_carried taken start zero all few = refl
-  find_carried taken start (suc count) all few =
-      let same = among_carried taken start all (omega (arith, few)) in
-      let rest = find_carried taken (start + 1) count all (omega (arith, few)) in
-      ap (λ (b : Bool). cond (not b) (Some (site_place strip start)) (find (λ place. not (has_place (places_on strip taken) place)) (map (site_place strip) (range_with_len (start + 1) count)))) same
-      ∙ ap (λ (o : Option Place). cond (not (is_among taken start)) (Some (site_place strip start)) o) rest
-      ∙ chosen (not (is_among taken start)) start (find (λ site. not (is_among taken site)) (range_with_len (start + 1) count))
+  find_carried taken start (suc count) all few = grind (arith, among_carried, find_carried taken (start + 1) count all (omega (arith, few)))
 
   kind_inside : (kind : Kind) → first_site strip kind + site_count strip kind ≤ length (sites_of strip)
-  kind_inside Logic = omega (arith, length-sites_of strip)
-  kind_inside Pad = omega (arith, length-sites_of strip)
+  kind_inside kind = grind (arith, length-sites_of)
 
   free_carried : (kind : Kind) (taken : List ℕ) → All (Inside strip distinct) taken → IsLeast taken (first_site strip kind) (site_count strip kind) (least_free strip kind taken) → site_place strip (least_free strip kind taken) ≡ unwrap_or (find (λ place. not (has_place (places_on strip taken) place)) (places_of strip kind)) (place_at 0 0 0)
-  free_carried kind taken all least =
-      sym (ap (λ (places : List Place). unwrap_or (find (λ place. not (has_place (places_on strip taken) place)) places) (place_at 0 0 0)) (places_are strip kind)
-      ∙ ap (λ (o : Option Place). unwrap_or o (place_at 0 0 0)) (find_carried taken (first_site strip kind) (site_count strip kind) all (kind_inside kind))
-      ∙ ap (λ (o : Option ℕ). unwrap_or (option_map (site_place strip) o) (place_at 0 0 0)) least.found)
+  free_carried kind taken all least = grind (arith, places_are, find_carried, kind_inside)
 
   -- a block with the place of its kept site
   abbrev with_place : Comer → Kind × Option Place
@@ -72,8 +58,7 @@ module _ (strip : Strip) (distinct : AreDistinct strip) where
       let site = least_free strip kind taken in
       let lt : Inside strip distinct site = omega (arith, least.below, kind_inside kind) in
       let rest = seated_carried (taken ++ site ∷ []) blocks (all_more taken site all lt) (λ b s less is. inside (suc b) s (omega (arith, less)) is) (room_more strip taken (kind, None) blocks room) in
-      ap (λ (places : List Place). site_place strip site ∷ places) (rest ∙ ap (λ (t : List Place). placed_behind strip t (map with_place blocks)) (map_push (site_place strip) taken site))
-      ∙ ap (λ (p : Place). p ∷ placed_behind strip (places_on strip taken ++ p ∷ []) (map with_place blocks)) (free_carried kind taken all least)
+      grind (arith, map_push, free_carried)
 
   kept_all : (kept : List (Option ℕ)) → ((block site : ℕ) → block < length kept → get_or kept block None ≡ Some site → Inside strip distinct site) → All (Inside strip distinct) (kept_sites kept)
   kept_all [] inside = All-nil (Inside strip distinct)
@@ -120,14 +105,9 @@ module _ (strip : Strip) (apart : (kind : Kind) → AllPairs (λ place next. pla
 
   all_kept : (keys : List BlockKey) → map (option_map (site_place strip)) (map (λ key. option_map (site_of strip key.kind) (kept_place kept key)) keys) ≡ map (λ key. option_and_then (λ place. find (is_same_place place) (places_of strip (kind_for key.kind))) (kept_place kept key)) keys
   all_kept [] = refl
-  all_kept (key ∷ keys) =
-      let head = one_kept key (kept_place kept key) refl in
-      let rest = all_kept keys in
-      cc
+  all_kept (key ∷ keys) = grind (arith, one_kept, all_kept keys)
 
 -- the places of the sites at the start
 pub start_places : (strip : Strip) (packed : PackedCircuit) (kept : KeptPlaces) (kinds : List Kind) → AreDistinct strip → ((kind : Kind) → AllPairs (λ place next. place ≢ next) (places_of strip kind)) → AreKeptOn strip kept → AreKeptSites strip kinds (kept_sites_of strip packed kept) → HaveRoom strip kinds →
     places_on strip (start_of strip kinds (kept_sites_of strip packed kept)) ≡ placed_first strip kinds (kept_by_block strip packed kept)
-start_places strip packed kept kinds distinct apart lawful theirs room =
-    start_carried strip distinct kinds (kept_sites_of strip packed kept) theirs room
-    ∙ ap (placed_first strip kinds) (all_kept strip apart kept lawful (keys_of packed))
+start_places strip packed kept kinds distinct apart lawful theirs room = grind (arith, start_carried, all_kept)

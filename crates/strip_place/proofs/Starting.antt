@@ -1,5 +1,5 @@
 -- The start, block by block, with marks on the taken sites.
-use Rattle.strip_place.proofs.Prelude.{ℕ, zero, suc, ◌≡◌, ◌+◌, ◌-◌, ◌<◌, ◌≤◌, inl, inr, Bool, true, false, List, [], ◌∷◌, ◌++◌, Option, Some, None, drop, length, get_or, set, refl, sym, ap, subst, ◌∙◌, arith, cases_eq, cases_lt, append-nil, append_assoc, drop_all, drop_more, prefix_len-drop_no, prefix_len-drop_yes, Strip, Kind, Logic, Pad, first_site, is_among, kept_sites, least_free, seated_behind, site_count, site_for, AreKeptSites, Vacancies, all_free, first_from, lowest_vacant, marks_with, without_lowest}
+use Rattle.strip_place.proofs.Prelude.{ℕ, zero, suc, ◌≡◌, ◌+◌, ◌-◌, ◌<◌, ◌≤◌, Bool, true, false, List, [], ◌∷◌, ◌++◌, Option, Some, None, drop, length, get_or, set, refl, sym, ap, subst, ◌∙◌, arith, append-nil, append_assoc, drop_all, drop_more, prefix_len-drop_no, prefix_len-drop_yes, Strip, Kind, Logic, Pad, first_site, is_among, kept_sites, least_free, seated_behind, site_count, site_for, AreKeptSites, Vacancies, all_free, first_from, lowest_vacant, marks_with, without_lowest}
 use Rattle.std.proofs.lemmas.List.{get_or-set_same, get_or-set_other, length-set}
 use Rattle.strip_place.proofs.Vacant.{IsLeast, among_before, among_last, among_other}
 use Rattle.strip_place.proofs.Seatings.{Comer, HasRoom, least_seat, nobody, room_more}
@@ -60,16 +60,9 @@ pub record IsStarting (strip : Strip) (blocks : List Comer) (kept : List ℕ) (i
 lowest_by : (strip : Strip) (taken : List ℕ) (kind : Kind) (marks : List Bool) (low : ℕ) → AreMarks taken marks → first_site strip kind + site_count strip kind ≤ length marks → IsLow strip taken kind low → IsLeast taken (first_site strip kind) (site_count strip kind) (least_free strip kind taken) → first_from marks low ≡ least_free strip kind taken
 lowest_by strip taken kind marks low are inside is least =
     let site = least_free strip kind taken in
-    let past : low ≤ site = elim (cases_lt site low) [
-      | inl lt ↦ absurd (let wrong = sym least.free ∙ is.below site least.from lt in cc)
-      | inr ge ↦ ge
-    ] in
+    let past : low ≤ site = grind arith in
     let gap : low + (site - low) ≡ site = omega (arith, past) in
-    let small : site < length marks = omega (arith, least.below, inside) in
-    first_at marks low (site - low) (omega (arith, gap, small))
-    (λ s after lt. are s (omega (arith, lt, gap, small)) ∙ least.least s (omega (arith, is.from, after)) (omega (arith, lt, gap)))
-    (ap (λ s. get_or marks s false) gap ∙ (are site small ∙ least.free))
-    ∙ gap
+    grind (arith, first_at)
 
 module _ (strip : Strip) (blocks : List Comer) (kept : List ℕ) (index : ℕ) (vacancies : Vacancies) (sites : List ℕ) (so_far : IsStarting strip blocks kept index vacancies sites) where
   abbrev taken : List ℕ
@@ -86,11 +79,7 @@ module _ (strip : Strip) (blocks : List Comer) (kept : List ℕ) (index : ℕ) (
     joined site = sym (append_assoc kept sites (site ∷ []))
 
     one_more : seated_behind strip kept blocks ≡ (sites ++ site_for strip taken block ∷ []) ++ seated_behind strip (kept ++ (sites ++ site_for strip taken block ∷ [])) (drop (index + 1) blocks)
-    one_more =
-        let site = site_for strip taken block in
-        so_far.all ∙ (ap (λ (b : List Comer). sites ++ seated_behind strip taken b) next
-        ∙ (sym (append_assoc sites (site ∷ []) (seated_behind strip (taken ++ site ∷ []) (drop (index + 1) blocks)))
-        ∙ ap (λ (t : List ℕ). (sites ++ site ∷ []) ++ seated_behind strip t (drop (index + 1) blocks)) (sym (joined site))))
+    one_more = grind (arith, next, append_assoc)
 
     room_then : HasRoom strip (kept ++ (sites ++ site_for strip taken block ∷ [])) (drop (index + 1) blocks)
     room_then = subst (λ (t : List ℕ). HasRoom strip t (drop (index + 1) blocks)) (sym (joined (site_for strip taken block))) (room_more strip taken block (drop (index + 1) blocks) room_here)
@@ -100,10 +89,7 @@ module _ (strip : Strip) (blocks : List Comer) (kept : List ℕ) (index : ℕ) (
   starting_kept kind site lt here =
       let block : Comer = (kind, Some site) in
       let among : is_among taken site ≡ true = (room_here block lt here).kept 0 site (omega arith) refl in
-      let are : AreMarks (taken ++ site ∷ []) vacancies.marks = λ s inside. elim (cases_eq s site) [
-        | inl same ↦ so_far.marks s inside ∙ rw same (among ∙ sym (among_last taken site))
-        | inr differs ↦ so_far.marks s inside ∙ sym (among_other taken site s differs)
-      ] in
+      let are : AreMarks (taken ++ site ∷ []) vacancies.marks = grind (arith, among_last, among_other) in
       record {
         all = one_more block lt here;
         room = room_then block lt here;
@@ -119,15 +105,10 @@ module _ (strip : Strip) (blocks : List Comer) (kept : List ℕ) (index : ℕ) (
     least = least_seat strip kind taken (drop (index + 1) blocks) (room_here (kind, None) lt here)
 
     inside : (k : Kind) → first_site strip k + site_count strip k ≤ length vacancies.marks
-    inside Logic = omega (arith, so_far.long)
-    inside Pad = omega (arith, so_far.long)
+    inside k = grind arith
 
     pub lowest_is : lowest_vacant vacancies kind ≡ least_free strip kind taken
-    lowest_is = by kind (inside kind) least
-      where
-        by : (kind : Kind) → first_site strip kind + site_count strip kind ≤ length vacancies.marks → IsLeast taken (first_site strip kind) (site_count strip kind) (least_free strip kind taken) → lowest_vacant vacancies kind ≡ least_free strip kind taken
-        by Logic within least = lowest_by strip taken Logic vacancies.marks vacancies.logic so_far.marks within so_far.logic least
-        by Pad within least = lowest_by strip taken Pad vacancies.marks vacancies.pads so_far.marks within so_far.pads least
+    lowest_is = grind (arith, least, lowest_by)
 
     pub lowest_inside : lowest_vacant vacancies kind < length vacancies.marks
     lowest_inside = omega (arith, lowest_is, least.below, inside kind)
@@ -148,15 +129,7 @@ module _ (strip : Strip) (blocks : List Comer) (kept : List ℕ) (index : ℕ) (
         let block : Comer = (kind, None) in
         let free : least_free strip kind taken ≡ site = sym (is ∙ lowest_is) in
         let then = after kind site (sym is) (low_next site (sym free)) (omega (arith, is, lowest_inside)) in
-        let same = sym (joined block lt here site) in
-        record {
-          all = subst (λ s. seated_behind strip kept blocks ≡ (sites ++ s ∷ []) ++ seated_behind strip (kept ++ (sites ++ s ∷ [])) (drop (index + 1) blocks)) free (one_more block lt here);
-          room = subst (λ s. HasRoom strip (kept ++ (sites ++ s ∷ [])) (drop (index + 1) blocks)) free (room_then block lt here);
-          long = then.0 ∙ so_far.long;
-          marks = subst (λ (t : List ℕ). AreMarks t (without_lowest vacancies kind).marks) same then.1;
-          logic = subst (λ (t : List ℕ). IsLow strip t Logic (without_lowest vacancies kind).logic) same then.2;
-          pads = subst (λ (t : List ℕ). IsLow strip t Pad (without_lowest vacancies kind).pads) same then.3;
-        }
+        grind (arith, joined, one_more, room_then)
 
   pub starting_all : length blocks ≤ index → sites ≡ seated_behind strip kept blocks
   starting_all past = sym (so_far.all ∙ (ap (λ (b : List Comer). sites ++ seated_behind strip taken b) (drop_all index blocks past) ∙ append-nil sites))

@@ -60,10 +60,7 @@ both_renewed points nets first second old mid new one two firsts seconds = recor
   firsts = λ k lt. seconds.kept (get_or first k 0) (firsts.done k lt);
   seconds = seconds.done;
   others = λ number off not. seconds.others number not ∙ firsts.others number off;
-  total_is =
-      (let a = firsts.total_is ∙ ap (reached_length points nets) (take_all (length first) first (omega arith)) in
-      let b = seconds.total_is ∙ ap (reached_length points nets) (take_all (length second) second (omega arith)) in
-      omega (arith, a, b));
+  total_is = (grind (arith, take_all));
 }
 
 -- a block moved from one point to another, and the other block to where the first was

@@ -1,5 +1,5 @@
 -- The free sites among those of a kind.
-use Rattle.strip_place.proofs.Prelude.{ℕ, zero, suc, ◌≡◌, ◌≢◌, ◌+◌, ◌<◌, ◌≤◌, ◌⊎◌, inl, inr, Bool, true, false, not, cond, ◌||◌, List, [], ◌∷◌, ◌++◌, Some, nat_eq, find, refl, ap, arith, range_with_len, nat_tests, list_any-append, is_among}
+use Rattle.strip_place.proofs.Prelude.{ℕ, zero, suc, ◌≡◌, ◌≢◌, ◌+◌, ◌<◌, ◌≤◌, ◌⊎◌, inl, inr, true, false, not, cond, ◌||◌, List, [], ◌∷◌, ◌++◌, Some, nat_eq, find, refl, arith, range_with_len, nat_tests, list_any-append, is_among}
 
 -- the number of free ones among `count` sites from the first one on
 abbrev pub free_count : List ℕ → ℕ → ℕ → ℕ
@@ -24,8 +24,7 @@ free_past taken site start zero outside = refl
 free_past taken site start (suc count) outside =
     let other : start ≢ site = elim outside [ inl before ↦ omega (arith, before) | inr behind ↦ omega (arith, behind) ] in
     let rest = free_past taken site (start + 1) count (elim outside [ inl before ↦ inl (omega (arith, before)) | inr behind ↦ inr (omega (arith, behind)) ]) in
-    let here = ap (λ (b : Bool). cond {A = ℕ} b 0 1) (among_other taken site start other) in
-    omega (arith, here, rest)
+    grind (arith, among_other)
 
 -- taking one more site takes at most one
 pub free_less : (taken : List ℕ) (site start count : ℕ) → free_count taken start count ≤ free_count (taken ++ site ∷ []) start count + 1

@@ -6,6 +6,7 @@
 //! - [`write_tagged`] writes each line of a text with a tag in front. [`write_at_once`] does so by
 //!   one write, if there is memory for all of it; so does [`write_answer`], which adds a line
 //!   `done TAG` if the tag has an id.
+//! - [`push_line`] appends a line to a text.
 //! - [`told_apart`] is the law: the lines of one owner, without their tags, are the texts for that
 //!   owner and nothing else. In `specs/`, `Tags` has the definitions.
 #![tactic(auto)]
@@ -16,4 +17,4 @@ mod writing;
 
 pub use law::told_apart;
 pub use tags::{has_id, owner_of, split_tag};
-pub use writing::{write_answer, write_at_once, write_tagged};
+pub use writing::{push_line, write_answer, write_at_once, write_tagged};

@@ -1,11 +1,23 @@
 //! Texts, written with a tag in front of each line.
 ghost use Rattle.line_text.specs.Writing.{Writes};
-ghost use Rattle.std.specs.Prelude.{◌++◌, codes};
-ghost use Rattle.tagged_lines.specs.Tags.{answer_told, output_of, tagged_text};
+ghost use Rattle.std.specs.Prelude.{◌≡◌, ◌++◌, codes, OnOk};
+ghost use Rattle.tagged_lines.specs.Tags.{answer_told, output_of, tagged_text, with_feed};
 
 use crate::tags::has_id;
 use line_text::{Failed, MemorySink, Sink, split_line, write_all, write_slices};
-use std::alloc::Global;
+use std::alloc::{AllocError, Global};
+
+/// Appends a line and its LF.
+///
+/// # Errors
+/// `AllocError` if memory runs out.
+pub fn push_line(text: &mut Vec<u8>, line: &[u8]) -> Result<(), AllocError>
+    ensures { OnOk result (text.new.items ≡ text.old.items ++ with_feed line.now) }
+{
+    text.extend_from_slice(line)?;
+    text.push(b'\n')?;
+    Ok(())
+}
 
 /// Writes each line of a text with that tag in front, and LF after the last line too. Takes no
 /// memory.

@@ -1,6 +1,7 @@
 -- The definitions on small cases, computed by the checker.
-use Rattle.tenant_slot.proofs.Prelude.{◌≡◌, ℕ, List, [], ◌∷◌, Ok, Err, Some, None, true, false, refl, Arch, Circuit, TooWide, Strip, packing_sources, placing_sources, Packing, Placing, Routing, Upload, Change, Route, Cancel, Net, Status, Withdraw, PlaceFile, RouteFile, Advance, Stale, Accepted, Refused, Step, WrongState, BadBlif, CannotPack, DoesNotFit, BadEffort, Blocks, GaveUp, State, pack_unless, place, place_unless, routed_unless, run, start, step, after_event, is_takeable, next_job}
-use Rattle.tenant_slot.specs.declared.reply.StateName.TheVariants.{Empty, Loaded, Packed, Placed, Unrouted}
+use Rattle.tenant_slot.proofs.Prelude.{◌≡◌, ℕ, List, [], ◌∷◌, Ok, Err, Some, None, true, false, refl, Arch, Circuit, TooWide, Strip, packing_sources, placing_sources, Packing, Routing, Upload, Change, Route, Cancel, Net, Status, Withdraw, PlaceFile, RouteFile, Advance, Stale, Accepted, Refused, Step, WrongState, BadBlif, CannotPack, DoesNotFit, BadEffort, Blocks, GaveUp, State, pack_unless, place, place_unless, routed_unless, run, start, step, after_event, is_takeable, next_job, Loaded}
+use Rattle.tenant_slot.specs.declared.reply.StateName.TheVariants.{Placing}
+use Rattle.tenant_slot.specs.declared.reply.StateName.TheVariants.{Empty, Packed, Placed, Unrouted}
 use Rattle.tenant_slot.specs.declared.event.Event.TheVariants.{Command as Asked, Advance as Stepped}
 use Rattle.tenant_slot.specs.declared.reply.Reply.TheVariants.{Status as InState}
 use Rattle.tenant_slot.proofs.Leading.{load}

@@ -1,9 +1,6 @@
 -- What a slot has when a command is lawful.
-use Rattle.tenant_slot.proofs.Prelude.{◌≡◌, ℕ, true, Option, Some, None, refl, arith, is_some, Arch, Strip, KeptPlaces, Place, Content, Empty, Loaded, Packed, Placed, Routed, Unrouted, Netlist, Running, HasContent, IsNetlist, netlist_in, packing_in, text_of, is_lawful, name_of}
-
--- what the slot has when `place` is lawful
-pub at_packing : (content : Content) (job : Option Running) (seed effort : ℕ) → is_lawful (name_of content job) (Place seed effort) ≡ true → (is_some (packing_in content) ≡ true) × (job ≡ None)
-at_packing content job seed effort lawful = grind arith
+use Rattle.tenant_slot.proofs.Prelude.{◌≡◌, ℕ, Some, refl, Arch, Strip, KeptPlaces, Content, Empty, Packed, Placed, Routed, Unrouted, Netlist, HasContent, IsNetlist, netlist_in, text_of}
+use Rattle.tenant_slot.specs.declared.content.Content.TheVariants.{Loaded}
 
 -- what the slot keeps is what its text results in
 module _ (arch : Arch) (strip : Strip) (keeps : KeptPlaces) (seed effort : ℕ) where

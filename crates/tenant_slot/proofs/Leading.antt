@@ -1,15 +1,11 @@
 -- The results of commands and steps, in parts for use in lemmas.
-use Rattle.tenant_slot.proofs.Prelude.{Circuit, BlifFault, packed_of, unfit_of, Reply, Accepted, File, StateName, Placing, State, at_rest, with_netlist, pack_unless, place, next_generation, with_circuit, net_text_of}
-use Rattle.std.specs.Prelude.{ℕ, ◌+◌, List, [], Result, Option, Some, None}
+use Rattle.tenant_slot.proofs.Prelude.{Circuit, BlifFault, packed_of, unfit_of, Reply, Accepted, File, StateName, State, at_rest, with_netlist, pack_unless, place, next_generation, with_circuit, net_text_of, Loaded}
+use Rattle.std.specs.Prelude.{ℕ, ◌+◌, List, Result, Option, Some, None}
 use Rattle.tenant_slot.specs.declared.reply.FileKind.TheVariants.{Net as NetFile}
-use Rattle.tenant_slot.specs.declared.reply.StateName.TheVariants.{Loaded}
 
 -- a job begins, a placing with its seed and its effort
 abbrev pub begun : State → StateName → State
 begun state name = record (next_generation state) { name = name }
-
-abbrev pub begun_placing : State → ℕ → ℕ → State
-begun_placing state seed effort = record (next_generation state) { name = Placing; seed = seed; effort = effort; ending = None }
 
 -- the running job is given up, and everything is withdrawn
 abbrev pub stopped : State → State

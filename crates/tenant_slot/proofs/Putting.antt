@@ -1,6 +1,6 @@
 -- What a slot keeps is right after a put.
-use Rattle.tenant_slot.proofs.Prelude.{◌≡◌, ℕ, ◌+◌, ◌<◌, Bool, true, false, not, Option, Some, None, refl, sym, ap, subst, ◌∙◌, arith, ◌&&◌, option_map, if◌then◌else◌, option_map_or, Arch, Strip, KeptPlaces, JobKind, Sources, JobStep, next_step, is_last, Advance, Event, Reply, Step, Advanced, Finished, Stale, Content, Empty, Loaded, Packed, Placed, Routed, Unrouted, Running, Standing, state_before, state_during, CanFinish, IsMadeOf, name_at_rest, State, advance, after_reply, answer_to, state_at_end, go_on, is_next, kind_that_runs, sources_of, step, IsAdvanceOf, SlotState, after_event, running_sources, IsSlot, put_in, put_reply, slot_state, seen_state}
-use Rattle.job_state.specs.declared.sources.JobKind.TheVariants.{Placing as PlacingJob}
+use Rattle.tenant_slot.proofs.Prelude.{◌≡◌, ℕ, ◌+◌, ◌<◌, Bool, true, false, not, Option, Some, None, refl, sym, ap, subst, ◌∙◌, arith, ◌&&◌, option_map, if◌then◌else◌, option_map_or, Arch, Strip, KeptPlaces, JobKind, Sources, JobStep, next_step, is_last, Advance, Event, Reply, Step, Advanced, Finished, Stale, Content, Empty, Packed, Placed, Routed, Unrouted, Running, Standing, state_before, state_during, CanFinish, IsMadeOf, name_at_rest, State, advance, after_reply, answer_to, state_at_end, go_on, is_next, kind_that_runs, sources_of, step, IsAdvanceOf, SlotState, after_event, running_sources, IsSlot, put_in, put_reply, slot_state, seen_state, Placing as PlacingJob}
+use Rattle.tenant_slot.specs.declared.content.Content.TheVariants.{Loaded}
 use Rattle.tenant_slot.specs.declared.event.Event.TheVariants.{Advance as Stepped}
 use Rattle.tenant_slot.specs.declared.reply.StateName.TheVariants.{Empty as EmptyName, Packed as PackedName, Routed as RoutedName, Unrouted as UnroutedName}
 use Rattle.tenant_slot.proofs.Leading.{advanced}
@@ -22,9 +22,6 @@ answered_with slot change = record slot { state = after_reply slot.state change;
 answered : (slot : SlotState) (event : Event) (change : Option State) (reply : Reply) → slot.state.entries < 65536 → answer_to slot.state event ≡ (change, reply) →
     ((step slot.state event).1 ≡ Some reply) × (answered_with slot change ≡ after_event slot event)
 answered slot event change reply room is = grind arith
-
-pub IsSlot-more : (id : ℕ) (arch : Arch) (strip : Strip) (standing : Standing) (entries : ℕ) → IsSlot id arch strip standing entries → entries < 65536 → IsSlot id arch strip standing (entries + 1)
-IsSlot-more id arch strip standing entries slot room = grind arith
 
 -- a step that doesn't count is one more entry
 stale : (id : ℕ) (arch : Arch) (strip : Strip) (standing : Standing) (entries : ℕ) (done : JobStep) (made : Advance) (last : Bool) →

@@ -1,7 +1,6 @@
 -- The answers of `pack` and `place`.
-use Rattle.tenant_slot.proofs.Prelude.{◌≡◌, ℕ, ◌+◌, ◌<◌, Bool, true, false, List, Option, Some, None, Result, Ok, refl, sym, ap, ◌∙◌, arith, nat_lt, IfErr, if◌then◌else◌, circuit_of, Circuit, BlifFault, KeptPlaces, AreKeptOn, packed_of, unfit_of, fit_of, packing_sources, placing_sources, Command, Change, Pack, Place, Netlist, NotAnswered, NoMemory, Misfit, Refused, WrongState, BadEffort, StateName, Answers, Outcome, IsNetlist, job_begun, load_outcome, pack_outcome, place_outcome, is_lawful, with_kept_places, with_netlist, misfit_of, pack_unless, place_unless, serve, SlotState}
+use Rattle.tenant_slot.proofs.Prelude.{◌≡◌, ℕ, ◌+◌, ◌<◌, Bool, true, false, List, Option, Some, None, Result, Ok, refl, sym, ap, ◌∙◌, arith, nat_lt, IfErr, if◌then◌else◌, circuit_of, Circuit, BlifFault, KeptPlaces, AreKeptOn, packed_of, unfit_of, fit_of, packing_sources, placing_sources, Command, Change, Pack, Place, Netlist, NotAnswered, NoMemory, Misfit, Refused, WrongState, BadEffort, StateName, Answers, Outcome, IsNetlist, job_begun, load_outcome, pack_outcome, place_outcome, is_lawful, with_kept_places, with_netlist, misfit_of, pack_unless, place_unless, serve, SlotState, Loaded as LoadedName}
 use Rattle.std.specs.Prelude.{IfOk}
-use Rattle.tenant_slot.specs.declared.reply.StateName.TheVariants.{Loaded as LoadedName}
 use Rattle.tenant_slot.proofs.Leading.{pack, placing}
 
 -- a call that returns that answer, or runs out of memory

@@ -1,6 +1,6 @@
 -- What a slot keeps is right after a take, and after a job is given back.
-use Rattle.tenant_slot.proofs.Prelude.{◌≡◌, ℕ, ◌+◌, ◌-◌, Bool, true, false, not, Option, Some, None, refl, sym, ap, subst, ◌∙◌, arith, ◌↔◌, ◌==◌, ◌&&◌, is_some, nat_lt, option_map, IfSome, Decides-eqb, Arch, Strip, KeptPlaces, JobKind, Sources, JobStep, JobState, is_over, is_last, Content, Advance, Running, Standing, State, is_next, sources_of, GivesBack, IsAdvanceOf, SlotState, is_takeable, next_job, running_sources, IsSlot, here_of, ready_of, ready_with, slot_state, seen_state, without_ready}
-use Rattle.tenant_slot.proofs.Putting.{next_of, running_during, some_same, standing_of, step_of, step_of-same}
+use Rattle.tenant_slot.proofs.Prelude.{◌≡◌, ℕ, ◌+◌, ◌-◌, true, false, Option, Some, None, refl, sym, ap, subst, ◌∙◌, arith, ◌&&◌, is_some, nat_lt, option_map, IfSome, Arch, Strip, KeptPlaces, JobKind, Sources, JobStep, JobState, is_over, is_last, Content, Advance, Running, Standing, State, is_next, sources_of, GivesBack, IsAdvanceOf, SlotState, is_takeable, next_job, IsSlot, here_of, ready_of, ready_with, slot_state, seen_state, without_ready}
+use Rattle.tenant_slot.proofs.Putting.{running_during, standing_of, step_of}
 
 -- the journal's record of a step depends on its generation, its number and its sources
 pub written_of : (state : State) (step : JobStep) (id generation number : ℕ) (sources : Sources) (made : Advance) → generation ≡ step.generation → number ≡ step.number → sources ≡ step.sources →
@@ -27,9 +27,6 @@ pub record IsTaken (id : ℕ) (arch : Arch) (strip : Strip) (standing : Standing
   pub next : next_job (slot_state id arch strip standing entries) ≡ Some ready.step
   pub made : here_of standing.running ≡ Some ready.made
   pub out : slot_state id arch strip (record standing { running = option_map without_ready standing.running }) entries ≡ record (slot_state id arch strip standing entries) { here = None }
-
-all_three : (a b c : Bool) → a ≡ true → b ≡ true → c ≡ false → (a && (b && not c)) ≡ true
-all_three a b c first second third = rw (first, second, third) refl
 
 module _ (id : ℕ) (arch : Arch) (strip : Strip) (content : Content) (job : Running) (kept : KeptPlaces) (seed effort generation steps entries : ℕ)
     (slot : IsSlot id arch strip (standing_of content (Some job) kept seed effort generation steps) entries) where
@@ -65,42 +62,6 @@ module _ (id : ℕ) (arch : Arch) (strip : Strip) (content : Content) (job : Run
         made = ap (option_map (λ (j : JobState). j.made)) is;
         out = refl;
       }
-
-  -- the running job's next step is here again
-  some_stood : (back : JobState) → next_job its_slot ≡ Some back.step → IsSlot id arch strip (standing_of content (Some (ready_with back job)) kept seed effort generation steps) entries
-  some_stood back is =
-      let step : back.step ≡ step_of id generation (steps + 1) job.sources = same_step back.step (step_of id generation (steps + 1) job.sources) (sym is ∙ next_is) in
-      record {
-        size = slot.size;
-        kept = slot.kept;
-        content = slot.content;
-        job = record { name = slot.job.name; sources = slot.job.sources; going = slot.job.going; ready = step };
-        generation_small = slot.generation_small;
-        steps_small = slot.steps_small;
-        entries_small = slot.entries_small;
-      }
-
-  its_foreign : (made : Advance) (sources : Sources) → (made.foreign ≡ false) ↔ (running_sources its_slot.state ≡ Some sources) → (made.foreign ≡ false) → sources ≡ job.sources
-  its_foreign made sources both own =
-      let here : running_sources its_slot.state ≡ Some (sources_of its_slot.state job.sources.kind) = ap (option_map (sources_of its_slot.state)) (running_during job.sources.kind) in
-      some_same sources (sources_of its_slot.state job.sources.kind) (sym (both.0 own) ∙ here) ∙ sym slot.job.sources
-
-  some_next : (step : JobStep) (made : Advance) → step.id ≡ id → IsAdvanceOf its_slot.state step made → is_next its_slot.state made ≡ true → next_job its_slot ≡ Some step
-  some_next step made own said is =
-      let next = next_of its_slot.state made is in
-      let same : step ≡ step_of id generation (steps + 1) job.sources =
-      step_of-same step.id id step.generation generation step.number (steps + 1) step.sources job.sources own (sym said.generation ∙ next.generation) (sym said.number ∙ next.number) (its_foreign made step.sources said.foreign next.own) in
-      next_is ∙ ap (λ (s : JobStep). Some s) (sym same)
-
-  some_other : (step : JobStep) (made : Advance) → IsAdvanceOf its_slot.state step made → is_next its_slot.state made ≡ false → next_job its_slot ≡ Some step → ⊥
-  some_other step made said not_next is =
-      let same : step ≡ step_of id generation (steps + 1) job.sources = same_step step (step_of id generation (steps + 1) job.sources) (sym is ∙ next_is) in
-      let here : running_sources its_slot.state ≡ Some job.sources = ap (option_map (sources_of its_slot.state)) (running_during job.sources.kind) ∙ ap (λ (s : Sources). Some s) (sym slot.job.sources) in
-      let own : made.foreign ≡ false = said.foreign.1 (here ∙ ap (λ (s : JobStep). Some s.sources) (sym same)) in
-      let first : (made.generation == generation) ≡ true = (Decides-eqb made.generation generation).1 (said.generation ∙ ap (λ (s : JobStep). s.generation) same) in
-      let second : (made.number == steps + 1) ≡ true = (Decides-eqb made.number (steps + 1)).1 (said.number ∙ ap (λ (s : JobStep). s.number) same) in
-      let yes : is_next its_slot.state made ≡ true = all_three (made.generation == generation) (made.number == steps + 1) made.foreign first second own in
-      cc
 
 -- a take from any slot
 either_taken : (id : ℕ) (arch : Arch) (strip : Strip) (content : Content) (job : Option Running) (kept : KeptPlaces) (seed effort generation steps entries : ℕ) (ready : JobState) →

@@ -54,13 +54,11 @@ impl Drop for Slot {
         let Slot {
             alloc: _,
             id: _,
-            arch,
+            arch: _,
             strip: _,
-            standing,
+            standing: _,
             entries: _,
         } = self;
-        drop(arch);
-        drop(standing);
     }
 }
 

@@ -14,12 +14,8 @@ pub fn unread_tables(alloc: Global, circuit: &Circuit) -> Result<usize, AllocErr
     ensures { IfOk result (λ count. count ≡ unread_tables circuit.now) }
 {
     let reads = read_nets(alloc, circuit)?;
-    let marks = marks_of(alloc, circuit.nets.len(), &reads);
-    drop(reads);
-    let marks = marks?;
-    let count = count_unmarked(&marks, &circuit.tables);
-    drop(marks);
-    Ok(count)
+    let marks = marks_of(alloc, circuit.nets.len(), &reads)?;
+    Ok(count_unmarked(&marks, &circuit.tables))
 }
 
 /// Marks for that many nets: marked are these.

@@ -32,52 +32,19 @@ pub fn start_workers<
     requires { All (λ s. s.of ≡ pool.ready.now) seats.items }
 {
     let mut seats = seats;
-    let mut are_started = true;
     for share in shares {
-        are_started = start_worker(scope, pool, &mut seats, share, started, are_started);
-    }
-    drop(seats);
-    are_started
-}
-
-/// Starts a worker, if those before were started. Returns whether it was.
-fn start_worker<
-    's,
-    E,
-    C: Begun + Send + Sync + 's,
-    P: Ledger + Send + Sync + 's,
-    R: Wait + Clock + Sync + 's,
->(
-    scope: &Scope<'s, E>,
-    pool: Pool<'s, R, C, P>,
-    seats: &mut Vec<Seat>,
-    share: Share<P>,
-    started: &mut Vec<Worker<P>>,
-    goes_on: bool,
-) -> bool
-    requires { All (λ s. s.of ≡ pool.ready.now) seats.old.items }
-    ensures { All (λ s. s.of ≡ pool.entry.ready.now) seats.new.items }
-{
-    if !goes_on || started.reserve(1).is_err() {
-        drop(share);
-        return false;
-    }
-    match a_seat(seats, pool.ready) {
-        Some(seat) => match scope.spawn(move || run_worker(pool, seat, share, &Open)) {
-            Ok(worker) => {
-                started.push(worker).unwrap();
-                true
-            }
-            Err(error) => {
-                drop(error);
-                false
-            }
-        },
-        None => {
-            drop(share);
-            false
+        if started.reserve(1).is_err() {
+            return false;
         }
+        let Some(seat) = a_seat(&mut seats, pool.ready) else {
+            return false;
+        };
+        let Ok(worker) = scope.spawn(move || run_worker(pool, seat, share, &Open)) else {
+            return false;
+        };
+        started.push(worker).unwrap();
     }
+    true
 }
 
 /// Joins the workers, and returns their shares. None if memory runs out.
@@ -95,17 +62,7 @@ pub fn join_workers<P: Ledger, R: Threads + AllocGlobal>(
 
 /// The shares with one more.
 fn with_share<P: Ledger>(shares: Option<Vec<Share<P>>>, share: Share<P>) -> Option<Vec<Share<P>>> {
-    match shares {
-        Some(mut shares) => {
-            if shares.push(share).is_err() {
-                drop(shares);
-                return None;
-            }
-            Some(shares)
-        }
-        None => {
-            drop(share);
-            None
-        }
-    }
+    let mut shares = shares?;
+    shares.push(share).ok()?;
+    Some(shares)
 }

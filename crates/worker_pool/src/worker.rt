@@ -18,7 +18,9 @@ use std::time::Clock;
 use strips::{DeviceGraph, Window};
 
 /// Serves the numbers of the queue until it is closed and empty, and doesn't end before. Returns
-/// its share, which counts the puts that were recorded.
+/// its share, which counts the puts that were recorded. If its own deque refuses a number, or the
+/// step of a number ran out of memory, that number is served next: after a pause if memory ran out,
+/// and until it is given up.
 pub fn run_worker<C: Begun, P: Ledger, G: Gate, J: Law, R: Wait + Clock>(
     pool: Pool<'_, R, C, P, J>,
     seat: Seat<J>,
@@ -31,31 +33,13 @@ pub fn run_worker<C: Begun, P: Ledger, G: Gate, J: Law, R: Wait + Clock>(
 {
     let mut seat = seat;
     let mut share = share;
-    serve_all(pool, &mut seat, &mut share, gate);
-    drop(seat);
-    share
-}
-
-/// Serves the numbers of the queue until it is closed and empty. If its own deque refuses a number,
-/// or the step of a number ran out of memory, that number is served next: after a pause if memory
-/// ran out, and until it is given up.
-fn serve_all<C: Begun, P: Ledger, G: Gate, J: Law, R: Wait + Clock>(
-    pool: Pool<'_, R, C, P, J>,
-    seat: &mut Seat<J>,
-    share: &mut Share<P>,
-    gate: &G,
-)
-    requires { seat.old.of ≡ pool.ready.now }
-    ensures puts { share.old.puts ≤ share.new.puts }
-    ensures closed { J.closed }
-{
     let mut kept = None;
     for _ in pool.rt.forever() {
-        let Some(Kept { slot, lacks }) = next_number(pool.rt, pool.ready, seat, kept) else {
-            return;
+        let Some(Kept { slot, lacks }) = next_number(pool.rt, pool.ready, &mut seat, kept) else {
+            return share;
         };
-        let served = serve(pool, share, gate, slot, lacks);
-        kept = keep_number(pool.rt, pool.ready, seat, lacks, served);
+        let served = serve(pool, &mut share, gate, slot, lacks);
+        kept = keep_number(pool.rt, pool.ready, &mut seat, lacks, served);
     }
     unreachable!()
 }
@@ -108,10 +92,10 @@ fn keep_number<J: Law, R: Wait + Clock>(
 fn kept_with(lacks: u32, number: Option<u32>) -> Option<Kept>
     ensures { result ≡ kept_of lacks number }
 {
-    match number {
-        Some(slot) => Some(Kept { slot, lacks }),
-        None => None,
-    }
+    Some(Kept {
+        slot: number?,
+        lacks,
+    })
 }
 
 /// Serves a number: takes the next step of the job of its tenancy and reads the offset of its
@@ -145,10 +129,7 @@ fn serve<C: Begun, P: Ledger, G: Gate, J: Law, R: Wait>(
 fn window_at<'g>(graph: &'g DeviceGraph, job: &AnyJob, offset: Option<u32>) -> Option<Window<'g>>
     ensures { IfSome result (λ window. window ≡ basis_in job.now.step.sources) }
 {
-    match offset {
-        Some(offset) => window_for(job, graph, offset),
-        None => None,
-    }
+    window_for(job, graph, offset?)
 }
 
 /// Makes a step through its window without the lock, and puts it. If memory runs out the job is

@@ -6,7 +6,7 @@ returns-in-Ok-clause-printed g c =
     let laid = c.args.laid.now in
     let lines = c.in-Ok.lines in
     let laws = c.laws_of_configurations.ensures in
-    IfOk-weaker c.print_lines-printed.result _ _ (λ done taken. (
+    IfOk-weaker c.print_lines.result _ _ (λ done taken. (
       lines,
       c.in-Ok.ensures.gives,
       record {
@@ -16,4 +16,4 @@ returns-in-Ok-clause-printed g c =
         values = c.values_are_rows.ensures lines laid.circuit laid.arch laid.strip laid.layout c.requires.circuit c.requires.implemented;
       },
       taken,
-    )) c.print_lines-printed.ensures.printed
+    )) c.print_lines.ensures.printed

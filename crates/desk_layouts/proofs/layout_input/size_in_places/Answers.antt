@@ -1,4 +1,4 @@
-use Rattle.desk_layouts.proofs.Prelude.{◌≡◌, ◌∙◌, ℕ, List, codes, refl, ap, arith, first_line, size_line}
+use Rattle.desk_layouts.proofs.Prelude.{◌≡◌, ◌∙◌, ℕ, codes, refl, ap, arith, first_line, size_line}
 use Rattle.desk_layouts.proofs.PlaceHeading.{second_line}
 use Rattle.desk_layouts.proofs.layout_input.size_in_places.Goals as goal
 

@@ -13,7 +13,7 @@ returns g c =
     let written = c.write_present_stops-made.ensures in
     let has : OnOk made (IsEmptyOr stops bytes) =
     sink_has _ _ _ _ bytes (IsEmptyOr stops) made c.new-text.ensures.bytes c.as_bytes-2.ensures (some_written _ _ _ _ written.0 (IsEmptyOr stops) made written.2 written.1) in
-    some_written g.W.Sink.contents g.W.Sink.has_failed _ _ _ (IsItem stops (codes "path") name) c.write_present-written.result c.write_present-written.ensures
+    some_written g.W.Sink.contents g.W.Sink.has_failed _ _ _ (IsItem stops (codes "path") name) c.write_present.result c.write_present.ensures
     (item_if stops (codes "path") name bytes _ c.if-is_ok.text_if
     (elim c.if-is_ok.branch [
       | then-is_ok w ↦ λ e.

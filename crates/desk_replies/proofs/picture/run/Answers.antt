@@ -6,5 +6,5 @@ returns-in-Ok g c =
     inr (inr (record {
       printed = c.in-Ok.text.items;
       are_printed = c.in-Ok.ensures.ok;
-      end = subst (λ text. IsTextEnd c.args.size text c.draw_text-outcome.result) c.as_slice.ensures.value c.draw_text-outcome.ensures;
+      end = subst (λ text. IsTextEnd c.args.size text c.draw_text.result) c.as_slice.ensures.value c.draw_text.ensures;
     }))

@@ -1,4 +1,4 @@
-use Rattle.front_lines.proofs.Prelude.{◌≡◌, ℕ, List, Bool, Ok, false, rules, true, ap, refl, subst, sym, ◌∙◌, ahead_of, line_of, HasLine, ReadsOn, to_come}
+use Rattle.front_lines.proofs.Prelude.{◌≡◌, ℕ, List, Bool, Ok, false, rules, true, refl, subst, sym, ◌∙◌, ahead_of, line_of, HasLine, ReadsOn, to_come}
 use Rattle.front_lines.proofs.ServedLemmas.{keeps_on, progress_none, progress_turn, serves_all, stops_between, stops_turn}
 use Rattle.front_lines.proofs.serving.serve_client.Goals as goal
 

@@ -40,18 +40,18 @@ returns-in-Some-2-clause-exact c =
     let global = c.is_global-global.ensures ∙ ap (is_global c.args.circuit.now) c.net.ensures in
     let there = subst (λ (bs : List LaidBlock). slice_get bs c.in-Some.driver ≡ Some only.0) (sym c.blocks-blocks.ensures) only.1.there in
     let source = c.source_of-source.ensures only.0 there in
-    let sinks = c.as_slice.ensures.value ∙ c.in_ok-sinks.ensures
+    let sinks = c.as_slice-ends.ensures.value ∙ c.in_ok-sinks.ensures
     ∙ sinks_same c.args.circuit.now c.args.graph.now.arch c.args.layout.now c.args.laid.now.net c.is_global-global.result c.list-readers.result.now c.blocks-blocks.result.now global readers c.blocks-blocks.ensures in
     let told = rw c.in-Some-2.is at c.in_ok-fault.ensures.exact in (
       only.0,
       only.1,
       subst (λ (n : Node). IsPathFault c.args.graph.now n (sinks_of c.args.circuit.now c.args.graph.now.arch c.args.layout.now c.args.laid.now.net) c.args.laid.now.paths c.in-Some-2.fault) source
           (subst (λ (ns : List Node). IsPathFault c.args.graph.now c.source_of-source.result ns c.args.laid.now.paths c.in-Some-2.fault) sinks
-          (subst (λ (ps : List (List Node)). IsPathFault c.args.graph.now c.source_of-source.result c.as_slice.result.now ps c.in-Some-2.fault) c.paths.ensures told)),
+          (subst (λ (ps : List (List Node)). IsPathFault c.args.graph.now c.source_of-source.result c.as_slice-ends.result.now ps c.in-Some-2.fault) c.paths.ensures told)),
     )
 
-pub returns-in-None-clause-exact : goal.returns-in-None-clause-exact
-returns-in-None-clause-exact c =
+pub returns-clause-exact : goal.returns-clause-exact
+returns-clause-exact c =
     let drivers = c.list-drivers.ensures ∙ ap (list_at c.args.index.now.drivers) c.net-net.ensures ∙ c.requires.index.drivers.each c.args.laid.now.net c.requires.within in
     let at = sym c.first_driver.ensures ∙ c.in-Some.is in
     let only = only_driver c.args.layout.now c.args.laid.now.net c.list-drivers.result.now c.in-Some.driver drivers at c.in_default-other_driver.ensures in
@@ -61,8 +61,8 @@ returns-in-None-clause-exact c =
     let yes : c.in_ok-listed.listed ≡ true = search rules in
     let listed = rw yes at c.in_ok-listed.ensures in
     let tree = rw c.in-None.is at c.in_ok-fault.ensures.exact in
-    entry_laid c.args.circuit.now c.args.graph.now c.args.layout.now c.args.laid.now c.in-Some.driver only.0 only.1.there only.1.driven c.source_of-source.result (c.source_of-source.ensures only.0 there) c.as_slice.result.now
-    (c.as_slice.ensures.value ∙ c.in_ok-sinks.ensures
+    entry_laid c.args.circuit.now c.args.graph.now c.args.layout.now c.args.laid.now c.in-Some.driver only.0 only.1.there only.1.driven c.source_of-source.result (c.source_of-source.ensures only.0 there) c.as_slice-ends.result.now
+    (c.as_slice-ends.ensures.value ∙ c.in_ok-sinks.ensures
     ∙ sinks_same c.args.circuit.now c.args.graph.now.arch c.args.layout.now c.args.laid.now.net c.is_global-global.result c.list-readers.result.now c.blocks-blocks.result.now global readers c.blocks-blocks.ensures)
-    (subst (λ (ps : List (List Node)). IsRouted c.args.graph.now.arch c.args.graph.now.strip c.source_of-source.result c.as_slice.result.now ps) c.paths.ensures tree)
+    (subst (λ (ps : List (List Node)). IsRouted c.args.graph.now.arch c.args.graph.now.strip c.source_of-source.result c.as_slice-ends.result.now ps) c.paths.ensures tree)
     (sym c.listed_blocks.ensures ∙ listed ∙ listed_same c.args.circuit.now c.args.graph.now.arch c.args.layout.now c.in-Some.driver c.args.laid.now.net c.is_global-global.result c.list-readers.result.now global readers)

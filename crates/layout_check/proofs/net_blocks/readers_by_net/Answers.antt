@@ -16,4 +16,4 @@ loop-number-preserved c = (
 )
 
 pub returns : goal.returns
-returns c = rw c.into_lists.ensures (lists_all (wants c.args.arch.now) c.args.blocks.now c.args.limit c.loop-number.number c.loop-number.found.lists c.loop-number-test.false c.loop-number.invariant.1)
+returns c = lists_all (wants c.args.arch.now) c.args.blocks.now c.args.limit c.loop-number.number c.loop-number.found.lists c.loop-number-test.false c.loop-number.invariant.1

@@ -7,7 +7,7 @@ use Rattle.layout_files.proofs.block_lines.read_bles.Goals as goal
 pub loop-cursor-init : goal.loop-cursor-init
 loop-cursor-init c = record {
   read = λ circuit arch bles after same size names fits e.
-      begun (λ k ble. line_of (ble_line circuit arch ble)) (λ (ble : LaidBle). ble) bles (10 ∷ after) c.args.bles.now.items c.args.cursor.now c.requires (e ∙ ap Some (bles_texts circuit arch bles (10 ∷ after)));
+      begun (λ k ble. line_of (ble_line circuit arch ble)) (λ (ble : LaidBle). ble) bles (10 ∷ after) c.new-bles.result.items c.args.cursor.now c.new-bles.ensures.items (e ∙ ap Some (bles_texts circuit arch bles (10 ∷ after)));
   shorter = omega arith;
 }
 

@@ -7,7 +7,7 @@ use Rattle.layout_files.proofs.block_lines.read_pins.Goals as goal
 pub loop-cursor-init : goal.loop-cursor-init
 loop-cursor-init c = record {
   read = λ circuit pins after same names within e.
-      begun (λ k pin. word_after_space (or_open (net_name circuit) pin)) (λ (pin : Option ℕ). pin) pins (10 ∷ after) c.args.pins.now.items c.args.cursor.now c.requires
+      begun (λ k pin. word_after_space (or_open (net_name circuit) pin)) (λ (pin : Option ℕ). pin) pins (10 ∷ after) c.new-pins.result.items c.args.cursor.now c.new-pins.ensures.items
       (e ∙ ap (λ t. Some (t ++ (10 ∷ after))) (texts_plain (λ pin. word_after_space (or_open (net_name circuit) pin)) 0 pins));
   shorter = omega arith;
 }

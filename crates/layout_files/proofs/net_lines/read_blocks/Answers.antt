@@ -5,8 +5,8 @@ use Rattle.layout_files.proofs.net_lines.read_blocks.Goals as goal
 
 pub loop-blocks-init : goal.loop-blocks-init
 loop-blocks-init c = λ circuit arch blocks same size names fits bare numbered few places e. (
-  begun (λ k laid. text_of (laid_lines circuit arch laid)) (λ (laid : LaidBlock). laid) blocks [] c.args.blocks.now.items c.args.cursor.now c.requires (e ∙ ap Some (blocks_texts circuit arch blocks)),
-  sym (ap (count_by (λ (laid : LaidBlock). is_cluster laid.block)) c.requires),
+  begun (λ k laid. text_of (laid_lines circuit arch laid)) (λ (laid : LaidBlock). laid) blocks [] c.new-blocks.result.items c.args.cursor.now c.new-blocks.ensures.items (e ∙ ap Some (blocks_texts circuit arch blocks)),
+  sym (ap (count_by (λ (laid : LaidBlock). is_cluster laid.block)) c.new-blocks.ensures.items),
 )
 
 pub returns-in-None : goal.returns-in-None

@@ -6,7 +6,7 @@ use Rattle.layout_files.proofs.net_lines.read_globals.Goals as goal
 
 pub loop-cursor-init : goal.loop-cursor-init
 loop-cursor-init c = λ circuit globals after same names within other e.
-    begun (λ k net. line_of (codes ".global" ∷ net_name circuit net ∷ [])) (λ (net : ℕ). net) globals (globals_end globals after) c.args.globals.now.items c.args.cursor.now c.requires (e ∙ ap Some (globals_texts circuit globals after))
+    begun (λ k net. line_of (codes ".global" ∷ net_name circuit net ∷ [])) (λ (net : ℕ). net) globals (globals_end globals after) c.new-globals.result.items c.args.cursor.now c.new-globals.ensures.items (e ∙ ap Some (globals_texts circuit globals after))
 
 pub loop-cursor-preserved : goal.loop-cursor-preserved
 loop-cursor-preserved c = λ circuit globals after same names within other e.

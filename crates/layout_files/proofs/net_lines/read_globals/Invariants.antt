@@ -5,7 +5,7 @@ use Rattle.layout_files.proofs.net_lines.read_globals.Given as goal
 
 -- some global nets are read, and the lines of the others are left
 abbrev pub invariant-loop-cursor : goal.invariant-loop-cursor
-invariant-loop-cursor l = (circuit : Circuit) (globals after : List ℕ) → l.names ≡ circuit.nets → HasFileNames circuit → All (λ net. net < length circuit.nets) globals → left_after (Some after) (codes ".global ") ≡ None
+invariant-loop-cursor l = (circuit : Circuit) (globals after : List ℕ) → l.context.names.now ≡ circuit.nets → HasFileNames circuit → All (λ net. net < length circuit.nets) globals → left_after (Some after) (codes ".global ") ≡ None
     → l.initial.cursor ≡ Some (text_of (global_lines circuit globals) ++ after)
     → Halfway (λ k net. line_of (codes ".global" ∷ net_name circuit net ∷ [])) (λ net. net) globals (globals_end globals after) l.globals.items l.cursor
 

@@ -5,7 +5,7 @@ use Rattle.layout_files.proofs.place_lines.read_blocks.Goals as goal
 
 pub loop-cursor-init : goal.loop-cursor-init
 loop-cursor-init c = λ circuit blocks names small e.
-    begun (λ k laid. line_of (place_line circuit k laid)) (λ laid. laid.place) blocks [] c.args.places.now.items c.args.cursor.now c.requires (e ∙ ap Some (place_texts circuit blocks))
+    begun (λ k laid. line_of (place_line circuit k laid)) (λ laid. laid.place) blocks [] c.new-places.result.items c.args.cursor.now c.new-places.ensures.items (e ∙ ap Some (place_texts circuit blocks))
 
 pub loop-cursor-preserved : goal.loop-cursor-preserved
 loop-cursor-preserved c = λ circuit blocks names small e.

@@ -8,7 +8,7 @@ use Rattle.layout_files.proofs.route_lines.read_listed.Goals as goal
 pub loop-cursor-init : goal.loop-cursor-init
 loop-cursor-init c = record {
   read = λ circuit layout listed after names places small e.
-      begun (λ k block. line_of (listed_line circuit block (block_of layout block))) (λ (block : ℕ). block) listed (10 ∷ after) c.args.listed.now.items c.expect.new.self c.requires (e ∙ ap Some (listed_texts circuit layout listed (10 ∷ after)));
+      begun (λ k block. line_of (listed_line circuit block (block_of layout block))) (λ (block : ℕ). block) listed (10 ∷ after) c.new-listed.result.items c.expect.new.self c.new-listed.ensures.items (e ∙ ap Some (listed_texts circuit layout listed (10 ∷ after)));
   shorter = omega arith;
 }
 

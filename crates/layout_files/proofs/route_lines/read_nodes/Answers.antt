@@ -6,8 +6,8 @@ use Rattle.layout_files.proofs.route_lines.read_nodes.Goals as goal
 pub loop-cursor-init : goal.loop-cursor-init
 loop-cursor-init c = record {
   read = λ rows path after small ends e. (
-    begun (λ k node. line_of (node_text_of rows node ∷ [])) (λ (node : Node). node) path after c.args.nodes.now.items c.args.cursor.now c.requires (e ∙ ap Some (path_texts rows path after)),
-    (let some = path_some path ends in omega (arith, some, ap length c.requires)),
+    begun (λ k node. line_of (node_text_of rows node ∷ [])) (λ (node : Node). node) path after c.new-nodes.result.items c.args.cursor.now c.new-nodes.ensures.items (e ∙ ap Some (path_texts rows path after)),
+    (let some = path_some path ends in omega (arith, some, ap length c.new-nodes.ensures.items)),
   );
   shorter = omega arith;
 }

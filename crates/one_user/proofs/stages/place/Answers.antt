@@ -1,5 +1,4 @@
-use Rattle.one_user.proofs.Prelude.{◌≡◌, ◌+◌, ap, sym, subst, ◌∙◌, arith, IfOk, IfSome, Basis, HasFigures, Task, outcome_of, AreCounts, IsPlaced, state_at, task_in, Run}
-use Rattle.tenant_slot.specs.declared.reply.StateName.TheVariants.{Placing}
+use Rattle.one_user.proofs.Prelude.{◌≡◌, ◌+◌, ap, sym, subst, ◌∙◌, arith, IfOk, IfSome, Basis, HasFigures, Task, outcome_of, AreCounts, IsPlaced, state_at, task_in, Run, Placing}
 use Rattle.one_user.proofs.Asking.{Leads}
 use Rattle.one_user.proofs.Courses.{at_self, place_leads, placed_own, placing_done}
 use Rattle.one_user.proofs.stages.place.Goals as goal

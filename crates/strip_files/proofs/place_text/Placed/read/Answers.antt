@@ -11,7 +11,7 @@ loop-rest-preserved c =
     let before : ℕ = c.loop-rest.number in
     let number : ℕ = c.saturating_add-number.result in
     let filled : 0 < length rest = grind (arith, nat_tests, c.loop-rest-test.ensures) in
-    let old : List (List ℕ × Place) = places_of c.loop-rest.self.blocks.items in
+    let old : List (List ℕ × Place) = places_of c.loop-rest.placed.blocks.items in
     let new : List (List ℕ × Place) = places_of c.line.new.self.blocks.items in
     let left : 2 - number ≡ 2 - (before + 1) = omega (arith, c.saturating_add-number.ensures) in
     let same : nat_lt (number - 1) 2 ≡ nat_lt before 2 = grind (arith, nat_tests, c.saturating_add-number.ensures) in
@@ -19,13 +19,13 @@ loop-rest-preserved c =
     let placed : (more : List (List ℕ × Place)) → AreEachFrom IsLineOfPlace (length new) (filter is_place_line (drop (2 - number) later)) more → AreEachFrom IsLineOfPlace 0 (place_lines c.args.text.now) (new ++ more) = λ more told.
     (let step = place_step before line later old new more adds (subst (λ (k : ℕ). AreEachFrom IsLineOfPlace (length new) (filter is_place_line (drop k later)) more) left told) in
     let here : AreEachFrom IsLineOfPlace (length old) (filter is_place_line (drop (2 - before) (physical_lines rest))) step.0 = subst (λ (lines : List (List ℕ)). AreEachFrom IsLineOfPlace (length old) (filter is_place_line (drop (2 - before) lines)) step.0) (sym (c.split_line.ensures.lines filled)) step.1 in
-    subst (λ (all : List (List ℕ × Place)). AreEachFrom IsLineOfPlace 0 (place_lines c.args.text.now) all) (sym step.2) (c.loop-rest.invariant.3 step.0 here)) in
-    (c.in_default.ensures.starts, c.in_default.ensures.names, c.in_default.ensures.sized, placed)
+    subst (λ (all : List (List ℕ × Place)). AreEachFrom IsLineOfPlace 0 (place_lines c.args.text.now) all) (sym step.2) (c.loop-rest.invariant.2 step.0 here)) in
+    (c.in_default.ensures.listed, c.in_default.ensures.sized, placed)
 
 pub returns-in-Some-clause-places : goal.returns-in-Some-clause-places
 returns-in-Some-clause-places c =
     let short : length c.loop-rest.rest.now ≡ 0 = grind (arith, nat_tests, c.loop-rest-test.ensures) in
     let none : c.loop-rest.rest.now ≡ [] = nothing c.loop-rest.rest.now short in
-    let places : List (List ℕ × Place) = places_of c.loop-rest.self.blocks.items in
+    let places : List (List ℕ × Place) = places_of c.loop-rest.placed.blocks.items in
     subst (λ (all : List (List ℕ × Place)). AreEachFrom IsLineOfPlace 0 (place_lines c.args.text.now) all) (append-nil places)
-    (c.loop-rest.invariant.3 [] (subst (λ (rest : List ℕ). AreEachFrom IsLineOfPlace (length places) (filter is_place_line (drop (2 - c.loop-rest.number) (physical_lines rest))) []) (sym none) (no_place (length places) (2 - c.loop-rest.number))))
+    (c.loop-rest.invariant.2 [] (subst (λ (rest : List ℕ). AreEachFrom IsLineOfPlace (length places) (filter is_place_line (drop (2 - c.loop-rest.number) (physical_lines rest))) []) (sym none) (no_place (length places) (2 - c.loop-rest.number))))

@@ -1,5 +1,0 @@
-use Rattle.configuration_text.proofs.Switches.{IsHalfDrawn}
-use Rattle.configuration_text.proofs.switch_lines.push_paths.Given as goal
-
-abbrev pub invariant-loop-path : goal.invariant-loop-path
-invariant-loop-path l = IsHalfDrawn l.paths l.path-index l.text.items l.initial.text.items l.seen.items l.initial.seen.items

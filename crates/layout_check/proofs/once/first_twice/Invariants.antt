@@ -1,6 +1,0 @@
-use Rattle.layout_check.proofs.Prelude.{length}
-use Rattle.layout_check.proofs.HeldOnce.{ArePlacesUpTo}
-use Rattle.layout_check.proofs.once.first_twice.Given as goal
-
-abbrev pub invariant-loop-place : goal.invariant-loop-place
-invariant-loop-place l = ArePlacesUpTo l.numbers (length l.initial.places.items) l.place l.places.items

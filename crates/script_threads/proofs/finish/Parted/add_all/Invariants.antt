@@ -1,7 +1,0 @@
-use Rattle.script_threads.proofs.Prelude.{map, AreParts, section_of}
-use Rattle.std.specs.Prelude.{◌≡◌, true}
-use Rattle.script_threads.proofs.finish.Parted.add_all.Given as goal
-
--- the parts so far
-abbrev pub invariant-loop-part : goal.invariant-loop-part
-invariant-loop-part g l = AreParts (g.C.Begun.stay ≡ true) l.yielded (map section_of l.self.sections.items) l.self.transcripts.items
