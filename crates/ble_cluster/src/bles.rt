@@ -59,10 +59,16 @@ impl Bles {
         ensures { IfOk result (λ bles. bles ≡ bles_of circuit.now) }
     {
         let readers = Readers::new(alloc, circuit)?;
-        let latches = readers.lone_latches(alloc, circuit)?;
         let mut bles = Bles::empty(alloc);
-        bles.push_in_order(circuit, &readers, latches.as_slice())?;
-        Ok(bles)
+        let pushed = bles.push_all(alloc, circuit, &readers);
+        drop(readers);
+        match pushed {
+            Ok(()) => Ok(bles),
+            Err(error) => {
+                drop(bles);
+                Err(error)
+            }
+        }
     }
 
     /// No BLEs.
@@ -115,6 +121,22 @@ impl Bles {
             clock,
         })?;
         Ok(())
+    }
+
+    /// Adds the BLEs of the circuit, in the order of their lines.
+    fn push_all(
+        &mut self,
+        alloc: Global,
+        circuit: &Circuit,
+        readers: &Readers,
+    ) -> Result<(), AllocError>
+        requires { AreReaders circuit.now readers.now }
+        ensures { IfOk result (λ _. self.new ≡ self.old ++ bles_of circuit.now) }
+    {
+        let latches = readers.lone_latches(alloc, circuit)?;
+        let pushed = self.push_in_order(circuit, readers, latches.as_slice());
+        drop(latches);
+        pushed
     }
 
     /// Adds the circuit's tables and these latches, in the order of their lines.

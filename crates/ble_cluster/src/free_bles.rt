@@ -3,7 +3,7 @@ ghost use Rattle.std.specs.Prelude.{◌≡◌, ◌<◌, [], All, length, filter,
 ghost use Rattle.std.specs.List.{range_with_len};
 ghost use Rattle.ble_cluster.specs.Nets.{has};
 ghost use Rattle.ble_cluster.specs.Clusters.{cluster_of};
-ghost use Rattle.ble_cluster.specs.FirstFree.{AreLacks, AreOutsideCounts, IsFirstOf, IsKept};
+ghost use Rattle.ble_cluster.specs.FirstFree.{AreFound, AreLacks, AreOutsideCounts, HaveAtMost, IsFirstOf, IsKept};
 ghost use Rattle.ble_cluster.specs.BleIndex.{AreLawful};
 ghost use Rattle.ble_cluster.specs.FreeBles.{AllFit, free_in};
 
@@ -55,17 +55,51 @@ impl FreeBles {
             }) }
     {
         let elements = BleIndex::new(alloc, bles, count)?;
-        let (mut by_lack, by_outside) = by_keys(alloc, elements.bles(), count)?;
-        let (taken, growth) = room_for(alloc, elements.len(), elements.nets())?;
-        let seed = by_lack.lowest_free(taken.as_slice());
-        Ok(FreeBles {
-            elements,
-            taken,
-            by_lack,
-            by_outside,
-            seed,
-            growth,
-        })
+        match by_keys(alloc, elements.bles(), count) {
+            Ok((by_lack, by_outside)) => {
+                FreeBles::all_free(alloc, elements, by_lack, by_outside)
+            }
+            Err(error) => {
+                drop(elements);
+                Err(error)
+            }
+        }
+    }
+
+    /// BLEs, all free, with the indices that find them.
+    fn all_free(
+        alloc: Global,
+        elements: BleIndex,
+        mut by_lack: FirstFree,
+        by_outside: FirstFree,
+    ) -> Result<Self, AllocError>
+        requires { AreFound elements.elements by_lack by_outside }
+        ensures { IfOk result (λ grower.
+            grower ≡ record {
+              elements = elements.elements;
+              free = range_with_len 0 (length elements.elements);
+              members = [];
+            }) }
+    {
+        match room_for(alloc, elements.len(), elements.nets()) {
+            Ok((taken, growth)) => {
+                let seed = by_lack.lowest_free(taken.as_slice());
+                Ok(FreeBles {
+                    elements,
+                    taken,
+                    by_lack,
+                    by_outside,
+                    seed,
+                    growth,
+                })
+            }
+            Err(error) => {
+                drop(elements);
+                drop(by_lack);
+                drop(by_outside);
+                Err(error)
+            }
+        }
     }
 
     /// The BLEs.
@@ -136,8 +170,24 @@ fn by_keys(alloc: Global, bles: &Bles, count: usize) -> Result<(FirstFree, First
 {
     let most = most_inputs(bles, count);
     let by_lack = FirstFree::new(alloc, lacks(alloc, bles, most)?, most)?;
-    let by_outside = FirstFree::new(alloc, outside_counts(alloc, bles, most)?, most)?;
-    Ok((by_lack, by_outside))
+    match by_outside(alloc, bles, most) {
+        Ok(by_outside) => Ok((by_lack, by_outside)),
+        Err(error) => {
+            drop(by_lack);
+            Err(error)
+        }
+    }
+}
+
+/// Finds the BLEs by the number of nets that they read from outside; none has more than `most`
+/// inputs.
+fn by_outside(alloc: Global, bles: &Bles, most: usize) -> Result<FirstFree, AllocError>
+    requires { HaveAtMost bles.now most }
+    ensures outside { IfOk result (λ index. AreOutsideCounts bles.now index.keys.items) }
+    ensures lawful { IfOk result (IsFirstOf (length bles.now)) }
+{
+    let keys = outside_counts(alloc, bles, most)?;
+    FirstFree::new(alloc, keys, most)
 }
 
 /// A mark for each of `elements` BLEs, none of which is taken, and a cluster without members for
@@ -153,8 +203,13 @@ fn room_for(
         × (length room.1.gains ≡ elements)) }
 {
     let taken = vec![in alloc; false; elements]?;
-    let growth = GrowingCluster::new(alloc, elements, nets)?;
-    Ok((taken, growth))
+    match GrowingCluster::new(alloc, elements, nets) {
+        Ok(growth) => Ok((taken, growth)),
+        Err(error) => {
+            drop(taken);
+            Err(error)
+        }
+    }
 }
 
 /// Marks the members as taken.

@@ -33,16 +33,20 @@ impl GrowingCluster {
             × (growth.drives.count ≡ nets) × (length growth.gains ≡ elements)) }
     {
         let gains = SharedNets::new(alloc, elements)?;
-        let reads = NetSet::new(alloc, nets)?;
-        let drives = NetSet::new(alloc, nets)?;
-        Ok(GrowingCluster {
-            members: Vec::new(alloc),
-            reads,
-            drives,
-            outside: 0,
-            clock: None,
-            gains,
-        })
+        match two_sets(alloc, nets) {
+            Ok((reads, drives)) => Ok(GrowingCluster {
+                members: Vec::new(alloc),
+                reads,
+                drives,
+                outside: 0,
+                clock: None,
+                gains,
+            }),
+            Err(error) => {
+                drop(gains);
+                Err(error)
+            }
+        }
     }
 
     /// Removes all members.
@@ -227,5 +231,19 @@ impl GrowingCluster {
     {
         self.members.push(number)?;
         Ok(())
+    }
+}
+
+/// Two empty sets for nets with numbers below `nets`.
+fn two_sets(alloc: Global, nets: usize) -> Result<(NetSet, NetSet), AllocError>
+    ensures { IfOk result (λ both. (both.0.count ≡ nets) × (both.1.count ≡ nets)) }
+{
+    let first = NetSet::new(alloc, nets)?;
+    match NetSet::new(alloc, nets) {
+        Ok(second) => Ok((first, second)),
+        Err(error) => {
+            drop(first);
+            Err(error)
+        }
     }
 }

@@ -2,6 +2,7 @@
 ghost use Rattle.std.specs.Prelude.{◌≡◌, ◌==◌, ◌≤◌, IfOk, count_by, length};
 ghost use Rattle.arch_file.specs.declared.arch.TheConstants.{MAX_CLUSTER_SIZE};
 ghost use Rattle.grid.specs.declared.TheConstants.{MAX_COLUMNS, MAX_ROWS};
+ghost use Rattle.ble_cluster.specs.Bles.{bles_of};
 ghost use Rattle.blif.specs.LawfulCircuits.{IsCircuit};
 ghost use Rattle.circuit_use.specs.Counts.{bles_there, global_nets, has_inputs, is_control, is_global, use_of};
 
@@ -38,12 +39,9 @@ pub fn circuit_use(
         counted ≡ use_of circuit.now (bles_there cluster_size columns rows)) }
 {
     let there = bles_there(cluster_size, columns, rows);
-    let bles = Bles::new(alloc, circuit)?;
+    let bles = bles_in(alloc, circuit)?;
     Ok(CircuitUse {
-        bles: ResourceUse {
-            used: bles.len(),
-            there,
-        },
+        bles: ResourceUse { used: bles, there },
         latches: ResourceUse {
             used: circuit.latches.as_slice().len(),
             there,
@@ -62,6 +60,17 @@ fn bles_there(cluster_size: u32, columns: u32, rows: u32) -> u32
     let blocks = columns * rows;
     prove!(blocks <= 16_384);
     blocks * cluster_size
+}
+
+/// The number of BLEs of a circuit.
+fn bles_in(alloc: Global, circuit: &Circuit) -> Result<usize, AllocError>
+    requires { IsCircuit circuit.now }
+    ensures { IfOk result (λ count. count ≡ length (bles_of circuit.now)) }
+{
+    let bles = Bles::new(alloc, circuit)?;
+    let count = bles.len();
+    drop(bles);
+    Ok(count)
 }
 
 /// The number of nets that control a latch.

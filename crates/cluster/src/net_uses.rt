@@ -27,13 +27,13 @@ impl NetUses {
             }) }
         ensures readers { IfOk result (λ uses. uses.readers ≡ readers) }
     {
-        let mut globals = NetSet::new(alloc, circuit.nets.len())?;
-        for latch in circuit.latches.as_slice() {
-            if let Some(control) = latch.control {
-                globals.insert(control)?;
+        match globals_of(alloc, circuit) {
+            Ok(globals) => Ok(NetUses { globals, readers }),
+            Err(error) => {
+                drop(readers);
+                Err(error)
             }
         }
-        Ok(NetUses { globals, readers })
     }
 
     /// Whether the net is global.
@@ -59,6 +59,43 @@ impl NetUses {
     {
         self.is_global(net) || has_other(self.readers(net), driver)
     }
+}
+
+/// The nets that control latches.
+fn globals_of(alloc: Global, circuit: &Circuit) -> Result<NetSet, AllocError>
+    requires { IsCircuit circuit.now }
+    ensures { IfOk result (λ globals.
+        globals ≡ record {
+          count = length circuit.now.nets;
+          nets = distinct_nets (controls_of circuit.now.latches);
+        }) }
+{
+    let mut globals = NetSet::new(alloc, circuit.nets.len())?;
+    match add_controls(&mut globals, circuit) {
+        Ok(()) => Ok(globals),
+        Err(error) => {
+            drop(globals);
+            Err(error)
+        }
+    }
+}
+
+/// Adds the nets that control latches to an empty set.
+fn add_controls(globals: &mut NetSet, circuit: &Circuit) -> Result<(), AllocError>
+    requires circuit { IsCircuit circuit.now }
+    requires none { globals.old ≡ record { count = length circuit.now.nets; nets = [] } }
+    ensures { IfOk result (λ _. globals.new
+        ≡ record {
+          count = length circuit.now.nets;
+          nets = distinct_nets (controls_of circuit.now.latches);
+        }) }
+{
+    for latch in circuit.latches.as_slice() {
+        if let Some(control) = latch.control {
+            globals.insert(control)?;
+        }
+    }
+    Ok(())
 }
 
 /// Whether one of the readers isn't the driver.

@@ -1,6 +1,9 @@
 //! The tables that are stored with a packed circuit, so that its pins and nets can be looked up
 //! quickly.
-ghost use Rattle.std.specs.Prelude.{IfOk};
+ghost use Rattle.std.specs.Prelude.{◌≡◌, ◌++◌, IfOk, length};
+ghost use Rattle.cluster.specs.Prelude.{distinct_nets};
+ghost use Rattle.cluster.specs.ClusterPins.{pin_ranks, readers_by_net};
+ghost use Rattle.cluster.specs.NetUses.{UsesBlocks, cluster_nets, controls_of, input_nets};
 ghost use Rattle.cluster.specs.PackedTables.{AreTablesOf, IsPackedOf};
 
 use crate::block_nets::BlockNets;
@@ -48,16 +51,99 @@ impl PackedTables {
             clocks,
             readers,
         } = PinNets::new(alloc, circuit, bles, clusters)?;
-        let uses = NetUses::new(alloc, circuit, readers)?;
-        let mut nets = BlockNets::new(alloc);
-        add_nets(&mut nets, circuit, &uses, bles, clusters)?;
-        let ranks = ranks_of(alloc, arch.pins.as_slice())?;
-        Ok(PackedTables {
-            inputs,
-            clocks,
-            uses,
-            nets,
-            ranks,
-        })
+        match uses_of(alloc, circuit, arch, bles, clusters, readers) {
+            Ok((uses, nets, ranks)) => Ok(PackedTables {
+                inputs,
+                clocks,
+                uses,
+                nets,
+                ranks,
+            }),
+            Err(error) => {
+                drop(inputs);
+                drop(clocks);
+                Err(error)
+            }
+        }
+    }
+}
+
+/// The users of each net, the nets between blocks, and the ranks of pins.
+fn uses_of(
+    alloc: Global,
+    circuit: &Circuit,
+    arch: &Arch,
+    bles: &Bles,
+    clusters: &Rows,
+    readers: Rows,
+) -> Result<(NetUses, BlockNets, Vec<usize>), AllocError>
+    requires parts { IsPackedOf (record {
+      circuit = circuit.now;
+      arch = arch.now;
+      clusters = clusters.now;
+    }) bles.now }
+    requires readers { readers ≡ readers_by_net circuit.now bles.now clusters.now }
+    ensures globals { IfOk result (λ made.
+        made.0.globals ≡ record {
+          count = length circuit.now.nets;
+          nets = distinct_nets (controls_of circuit.now.latches);
+        }) }
+    ensures readers { IfOk result (λ made.
+        made.0.readers ≡ readers_by_net circuit.now bles.now clusters.now) }
+    ensures nets { IfOk result (λ made.
+        made.1 ≡ input_nets circuit.now made.0 (length circuit.now.inputs)
+        ++ cluster_nets circuit.now made.0 bles.now clusters.now (length clusters.now)) }
+    ensures ranks { IfOk result (λ made. made.2.items ≡ pin_ranks arch.now.pins) }
+{
+    let uses = NetUses::new(alloc, circuit, readers)?;
+    match nets_of(alloc, circuit, arch, bles, clusters, &uses) {
+        Ok((nets, ranks)) => Ok((uses, nets, ranks)),
+        Err(error) => {
+            drop(uses);
+            Err(error)
+        }
+    }
+}
+
+/// The nets between blocks, from the users of each net, and the ranks of pins.
+fn nets_of(
+    alloc: Global,
+    circuit: &Circuit,
+    arch: &Arch,
+    bles: &Bles,
+    clusters: &Rows,
+    uses: &NetUses,
+) -> Result<(BlockNets, Vec<usize>), AllocError>
+    requires { UsesBlocks circuit.now uses.now bles.now clusters.now }
+    ensures nets { IfOk result (λ made.
+        made.0 ≡ input_nets circuit.now uses.now (length circuit.now.inputs)
+        ++ cluster_nets circuit.now uses.now bles.now clusters.now (length clusters.now)) }
+    ensures ranks { IfOk result (λ made. made.1.items ≡ pin_ranks arch.now.pins) }
+{
+    let mut nets = BlockNets::new(alloc);
+    match add_nets(&mut nets, circuit, uses, bles, clusters) {
+        Ok(()) => with_ranks(alloc, arch, nets),
+        Err(error) => {
+            drop(nets);
+            Err(error)
+        }
+    }
+}
+
+/// Adds the ranks of pins to these nets.
+fn with_ranks(
+    alloc: Global,
+    arch: &Arch,
+    nets: BlockNets,
+) -> Result<(BlockNets, Vec<usize>), AllocError>
+    ensures nets { IfOk result (λ made. made.0 ≡ nets) }
+    ensures ranks { IfOk result (λ made. made.1.items ≡ pin_ranks arch.now.pins) }
+{
+    match ranks_of(alloc, arch.pins.as_slice()) {
+        Ok(ranks) => Ok((nets, ranks)),
+        Err(error) => {
+            drop(nets);
+            Err(error)
+        }
     }
 }

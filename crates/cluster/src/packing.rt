@@ -69,15 +69,20 @@ impl Packing {
     {
         let bles = Bles::new(alloc, circuit.circuit())?;
         let grower = FreeBles::new(alloc, bles, circuit.circuit().nets.len())?;
-        let (circuit, arch) = share(circuit, arch)?;
-        Ok(Packing {
-            alloc,
-            circuit,
-            arch,
-            grower,
-            clusters: Rows::new(alloc),
-            made: 0,
-        })
+        match share(circuit, arch) {
+            Ok((circuit, arch)) => Ok(Packing {
+                alloc,
+                circuit,
+                arch,
+                grower,
+                clusters: Rows::new(alloc),
+                made: 0,
+            }),
+            Err(error) => {
+                drop(grower);
+                Err(error)
+            }
+        }
     }
 
     /// The circuit that is packed.
@@ -146,8 +151,13 @@ fn share(
     ensures { IfOk result (λ shared. (shared.0 ≡ circuit.now) × (shared.1 ≡ arch.now)) }
 {
     let circuit = circuit.clone()?;
-    let arch = arch.clone()?;
-    Ok((circuit, arch))
+    match arch.clone() {
+        Ok(arch) => Ok((circuit, arch)),
+        Err(error) => {
+            drop(circuit);
+            Err(error)
+        }
+    }
 }
 
 /// Adds one cluster of free BLEs, if there are any. If memory runs out nothing is added.

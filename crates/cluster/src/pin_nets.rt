@@ -35,8 +35,13 @@ impl PinNets {
             nets.readers ≡ readers_by_net circuit.now bles.now clusters.now) }
     {
         let mut gathered = Gathered::new(alloc, circuit)?;
-        let readers = gathered.add_all(alloc, circuit, bles, clusters)?;
-        Ok(gathered.into_nets(readers))
+        match gathered.add_all(alloc, circuit, bles, clusters) {
+            Ok(readers) => Ok(gathered.into_nets(readers)),
+            Err(error) => {
+                drop(gathered);
+                Err(error)
+            }
+        }
     }
 }
 
@@ -86,7 +91,9 @@ impl Gathered {
     {
         let count = circuit.nets.len();
         let mut sets = ClusterSets::new(alloc, count)?;
-        self.add_with(&mut sets, circuit, bles, clusters)?;
+        let added = self.add_with(&mut sets, circuit, bles, clusters);
+        drop(sets);
+        added?;
         Rows::by_key(alloc, count, self.pairs.as_slice())
     }
 

@@ -1,5 +1,5 @@
 //! The ranks of pins in their classes.
-ghost use Rattle.std.specs.Prelude.{◌≡◌, IfOk};
+ghost use Rattle.std.specs.Prelude.{◌≡◌, [], IfOk};
 ghost use Rattle.cluster.specs.ClusterPins.{pin_ranks};
 
 use arch_file::{Pin, PinClass};
@@ -10,6 +10,20 @@ pub(crate) fn ranks_of(alloc: Global, pins: &[Pin]) -> Result<Vec<usize>, AllocE
     ensures { IfOk result (λ ranks. ranks.items ≡ pin_ranks pins.now) }
 {
     let mut ranks = Vec::with_capacity(alloc, pins.len())?;
+    match add_ranks(&mut ranks, pins) {
+        Ok(()) => Ok(ranks),
+        Err(error) => {
+            drop(ranks);
+            Err(error)
+        }
+    }
+}
+
+/// Adds the rank of each pin to an empty list.
+fn add_ranks(ranks: &mut Vec<usize>, pins: &[Pin]) -> Result<(), AllocError>
+    requires { ranks.old.items ≡ [] }
+    ensures { IfOk result (λ _. ranks.new.items ≡ pin_ranks pins.now) }
+{
     let mut inputs = 0;
     let mut outputs = 0;
     let mut clocks = 0;
@@ -29,5 +43,5 @@ pub(crate) fn ranks_of(alloc: Global, pins: &[Pin]) -> Result<Vec<usize>, AllocE
             }
         }
     }
-    Ok(ranks)
+    Ok(())
 }

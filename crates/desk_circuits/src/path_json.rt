@@ -122,10 +122,19 @@ fn write_loop(pen: &mut JsonPen, circuit: &Circuit, tables: &[usize]) -> Result<
         ++ json_tokens (list_of (map (table_json circuit.now) tables.now))) }
 {
     pen.open_list()?;
+    write_tables(pen, circuit, tables)?;
+    pen.close_list()
+}
+
+/// Writes tables, one after another.
+fn write_tables(pen: &mut JsonPen, circuit: &Circuit, tables: &[usize]) -> Result<(), AllocError>
+    ensures { OnOk result (pen.new ≡ pen.old
+        ++ flat_map (λ number. json_tokens (table_json circuit.now number)) tables.now) }
+{
     for number in tables {
         write_table(pen, circuit, *number)?;
     }
-    pen.close_list()
+    Ok(())
 }
 
 /// Writes the net that a table drives, and the table's line.

@@ -32,7 +32,9 @@ pub fn write_path_stops<W: Sink>(
     let Ok(strip) = strip_of(alloc, texts) else {
         return Ok(());
     };
-    write_stops_on(alloc, &strip, circuit, path, writer)
+    let written = write_stops_on(alloc, &strip, circuit, path, writer);
+    drop(strip);
+    written
 }
 
 /// Writes the stops of a path over that strip. Writes nothing if memory runs out.
@@ -47,7 +49,11 @@ fn write_stops_on<W: Sink>(
         × Writes W.contents W.has_failed writer.old writer.new text result }
 {
     match stops_on(alloc, strip, circuit, path) {
-        Ok(stops) => write_stops(writer, strip, circuit, &stops),
+        Ok(stops) => {
+            let written = write_stops(writer, strip, circuit, &stops);
+            drop(stops);
+            written
+        }
         Err(_) => Ok(()),
     }
 }

@@ -73,7 +73,9 @@ fn write_account<W: Sink>(
         × Writes W.contents W.has_failed writer.old writer.new text result }
 {
     let circuit = present_circuit(alloc, account.files);
-    write_text(is_table, account, &circuit, writer)
+    let written = write_text(is_table, account, &circuit, writer);
+    drop(circuit);
+    written
 }
 
 /// Prints the row or the lines of a name, with this circuit.

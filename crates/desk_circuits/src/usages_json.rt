@@ -65,10 +65,19 @@ fn write_list(pen: &mut JsonPen, names: &[NameFacts<'_>]) -> Result<(), AllocErr
     ensures { OnOk result (pen.new ≡ pen.old ++ json_tokens (list_of (map name_json names.now))) }
 {
     pen.open_list()?;
+    write_names(pen, names)?;
+    pen.close_list()
+}
+
+/// Writes the names, one after another.
+fn write_names(pen: &mut JsonPen, names: &[NameFacts<'_>]) -> Result<(), AllocError>
+    ensures { OnOk result (pen.new ≡ pen.old
+        ++ flat_map (λ facts. json_tokens (name_json facts)) names.now) }
+{
     for facts in names {
         write_name(pen, facts)?;
     }
-    pen.close_list()
+    Ok(())
 }
 
 /// Writes what a name used, and its circuit.

@@ -1,6 +1,5 @@
 -- The names that this crate's proofs use, but for its own lemmas.
 pub use Rattle.std.proofs.Common.{Bool, Bor, Err, IfOk, IfSome, IsSomeAnd, List, MatchResult, None, Ok, OnErr, Option, Result, Some, [], ap, arith, codes, inl, inr, map, refl, subst, sym, take, take-append-drop, true, ℕ, ◌++◌, ◌∙◌, ◌∷◌, ◌≡◌, ◌≤◌}
-pub use Rattle.std.proofs.lemmas.List.{take_all}
 pub use Rattle.std.proofs.lemmas.Option.{same_Some, slice_get-get_or}
 pub use Rattle.std.proofs.lemmas.Result.{IfOk-weaker}
 pub use Rattle.std.proofs.lemmas.Str.Pattern.{NoCharPasses-char, drop_at_char}

@@ -149,7 +149,11 @@ fn check_routed<O: FileOutputs, E: Sink>(
     };
     let texts = LayoutTexts::new(shape, routed.arch, routed.netlist, routed.texts);
     match verdict_of(alloc, &texts) {
-        Verdict::Implements(laid) => save_configuration(alloc, outputs, job, routed, &laid, teller),
+        Verdict::Implements(laid) => {
+            let saved = save_configuration(alloc, outputs, job, routed, &laid, teller);
+            drop(laid);
+            saved
+        }
         Verdict::Differs(laid, wrong) => Err(told_wrong(laid, wrong, teller)),
         Verdict::ArchRefused(fault) => Err(Outcome::ArchRefused(fault)),
         Verdict::NetlistRefused(_) => Err(Outcome::NetlistRefused),

@@ -4,7 +4,7 @@ ghost use Rattle.desk_netlists.specs.Prelude.{text_of, HavePlan, LoadParameters,
 ghost use Rattle.desk_netlists.specs.Asked.{IsLoadAskedFor, IsRandomAskedFor, word_of};
 
 use arch_file::{MAX_CLUSTER_SIZE, MAX_LUT_SIZE};
-use desk_common::{FLAG, Outcome};
+use desk_common::Outcome;
 use line_text::Sink;
 use option_words::{Given, OptionWord, Program, Takes};
 use random_script::{LoadParameters, MAX_TABLES, Phase, Plan, write_netlist, write_script};
@@ -64,8 +64,10 @@ pub const TOOL: Program = Program {
         },
         OptionWord {
             name: "blif",
+            value_name: "",
             help: "Prints the netlist of the first circuit alone",
-            ..FLAG
+            takes: Takes::Nothing,
+            default: None,
         },
     ],
 };

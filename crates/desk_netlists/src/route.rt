@@ -244,7 +244,10 @@ fn netlist_of<F: FileTexts + AllocGlobal, E: Sink>(
     warn_of_netlist(files.alloc(), netlist.as_slice(), teller);
     match SharedText::new(files.alloc(), Text::new(netlist)) {
         Ok(netlist) => Ok(netlist),
-        Err(_) => Err(Outcome::NoMemory),
+        Err(refused) => {
+            drop(refused);
+            Err(Outcome::NoMemory)
+        }
     }
 }
 

@@ -2,11 +2,9 @@
 ghost use Rattle.std.specs.Prelude.{◌≡◌, ◌≤◌, IfNone, IfSome};
 ghost use Rattle.desk_netlists.specs.Prelude.{MAX_EFFORT, IsWithin, MAX_TRACKS, MAX_COLUMNS, MAX_ROWS};
 
-use desk_common::{
-    ALONE, ARCH, COLUMNS, DEVICE, EFFORT, FILE, FLAG, FOLDER, GIVEN_TRACKS, ROWS, SEED,
-};
+use desk_common::{ARCH, DEVICE, EFFORT, FOLDER, GIVEN_TRACKS, SEED};
 use grid::{MAX_COLUMNS, MAX_ROWS};
-use option_words::{OptionWord, Program};
+use option_words::{OptionWord, Program, Takes};
 
 /// The tool and its options.
 pub const TOOL: Program = Program {
@@ -24,77 +22,104 @@ Example: fpgad_desk route --arch my.arch --tracks 8 --columns 10 --rows 10 --eff
         GIVEN_TRACKS,
         OptionWord {
             name: "least-tracks",
+            value_name: "",
             help: "Tries 1 track, then 2, and so on, until the netlist can be routed",
-            ..FLAG
+            takes: Takes::Nothing,
+            default: None,
         },
         OptionWord {
+            name: "columns",
+            value_name: "NX",
             help: "Columns of the device, 1 to 256; without it the least number that fits, and without --rows too the least square",
+            takes: Takes::Number(1, 256),
             default: None,
-            ..COLUMNS
         },
         OptionWord {
+            name: "rows",
+            value_name: "NY",
             help: "Rows of the device, 1 to 64; without it the least number that fits",
+            takes: Takes::Number(1, 64),
             default: None,
-            ..ROWS
         },
         OptionWord {
             name: "least-columns",
+            value_name: "",
             help: "Takes the least number of columns that fits, with --rows NY",
-            ..FLAG
+            takes: Takes::Nothing,
+            default: None,
         },
         DEVICE,
         SEED,
         EFFORT,
         OptionWord {
             name: "pins",
+            value_name: "FILE",
             help: "Puts inputs and outputs on the pads in FILE, a line `NAME COLUMN ROW PAD` for each; the service puts them elsewhere",
-            ..FILE
+            takes: Takes::Text,
+            default: None,
         },
         OptionWord {
             name: "csv",
+            value_name: "",
             help: "Prints the summary as a table: a line of headings, and a line of numbers",
-            ..FLAG
+            takes: Takes::Nothing,
+            default: None,
         },
         OptionWord {
             name: "json",
+            value_name: "",
             help: "Prints the summary as one JSON object, with the stops of the longest path (docs/SERVICE.md names its members)",
-            ..FLAG
+            takes: Takes::Nothing,
+            default: None,
         },
         OptionWord {
             name: "path",
+            value_name: "",
             help: "Prints the longest path stop by stop, with the wires between, each table's block and each pad's place",
-            ..FLAG
+            takes: Takes::Nothing,
+            default: None,
         },
         OptionWord {
             name: "svg",
+            value_name: "",
             help: "Also writes a picture of the routed netlist, as NETLIST's name and .svg",
-            ..FLAG
+            takes: Takes::Nothing,
+            default: None,
         },
         OptionWord {
             name: "page",
+            value_name: "",
             help: "Also writes a page for a browser with the routed netlist and its longest path, as NETLIST's name and .html",
-            ..FLAG
+            takes: Takes::Nothing,
+            default: None,
         },
         OptionWord {
             name: "configuration",
+            value_name: "",
             help: "Checks the files as `fpgad_desk check` does, and also writes what the device is loaded with, as NETLIST's name and .configuration",
-            ..FLAG
+            takes: Takes::Nothing,
+            default: None,
         },
         OptionWord {
             name: "check",
+            value_name: "",
             help: "Checks the files as `fpgad_desk check` does, and prints `implements`",
-            ..FLAG
+            takes: Takes::Nothing,
+            default: None,
         },
         OptionWord {
             name: "progress",
+            value_name: "",
             help: "Prints a line for each step on standard error, even if it is not a terminal",
-            ..FLAG
+            takes: Takes::Nothing,
+            default: None,
         },
         OptionWord {
             name: "netlist",
             value_name: "NETLIST",
             help: "The netlist, in BLIF; the files are named after it",
-            ..ALONE
+            takes: Takes::Alone,
+            default: None,
         },
         FOLDER,
     ],

@@ -156,10 +156,19 @@ fn write_stop_list(
         ++ json_tokens (list_of (map (stop_json circuit.now) stops.now))) }
 {
     pen.open_list()?;
+    write_stops(pen, circuit, stops)?;
+    pen.close_list()
+}
+
+/// Writes these stops, one after another.
+fn write_stops(pen: &mut JsonPen, circuit: &Circuit, stops: &[StopFacts]) -> Result<(), AllocError>
+    ensures { OnOk result (pen.new ≡ pen.old
+        ++ flat_map (λ stop. json_tokens (stop_json circuit.now stop)) stops.now) }
+{
     for stop in stops {
         write_stop(pen, circuit, *stop)?;
     }
-    pen.close_list()
+    Ok(())
 }
 
 /// Writes a stop.

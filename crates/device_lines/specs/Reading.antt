@@ -250,6 +250,14 @@ IsStep meant new (Ok nothing) = meant ≡ Ok new
 IsStep meant new (Err (Fault fault)) = meant ≡ Err fault
 IsStep meant new (Err NoMemory) = ⊤
 
+abbrev pub AreLines : Result (Seen × ℕ) InputFault → Seen → Result ℕ (TextError InputFault) → Type 0
+AreLines meant new (Ok lines) = meant ≡ Ok (new, lines)
+AreLines meant new (Err error) = IsError meant error
+
+abbrev pub IsRead : Result Seen InputFault → Seen → Result (Unit {0}) (TextError InputFault) → Type 0
+IsRead meant new (Ok nothing) = meant ≡ Ok new
+IsRead meant new (Err error) = IsError meant error
+
 abbrev pub later_lines : Option (List ℕ) → List (List ℕ)
 later_lines None = []
 later_lines (Some rest) = lines_of rest

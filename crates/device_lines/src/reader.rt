@@ -2,7 +2,7 @@
 ghost use Rattle.std.specs.Prelude.{◌≡◌, IfNone, IfOk};
 ghost use Rattle.device_lines.specs.Lines.{change_in, listed_in, owned_in, owned_node, owner_count};
 ghost use Rattle.device_lines.specs.Owning.{AreOwners};
-ghost use Rattle.device_lines.specs.Reading.{Gives, IsStep, seen_in_list, changed_by, device_in, error_at, first_line, owner_fault, inside_line, last_fault, line_read, list_line, live_after, missing_part, other_line, owner_seen, reply_line, seen_of, with_change, with_owned};
+ghost use Rattle.device_lines.specs.Reading.{AreLines, Gives, IsRead, IsStep, seen_in_list, changed_by, device_in, error_at, first_line, owner_fault, inside_line, last_fault, line_read, lines_of, lines_read, list_line, live_after, missing_part, nothing_seen, other_line, owner_seen, reply_line, seen_of, with_change, with_owned};
 
 use crate::changes::{Change, change_of};
 use crate::device::{ListedDevice, OwnedResource};
@@ -61,6 +61,25 @@ struct Reader<'t> {
 }
 
 impl<'t> Reader<'t> {
+    /// Reads the lines of a text, and returns how many there are. Fails at the first faulty one.
+    fn lines(&mut self, text: &'t [u8]) -> Result<usize, DeviceError>
+        requires { seen_of self.old ≡ nothing_seen self.old.device.size }
+        ensures { AreLines (lines_read (lines_of text.now) (nothing_seen self.old.device.size) 0)
+            (seen_of self.new) result }
+    {
+        let mut rest = Some(text);
+        let mut lines = 0usize;
+        while let Some(bytes) = rest {
+            let (line, later) = next_line(bytes);
+            lines = lines.saturating_add(1);
+            if let Err(refusal) = self.line(line, lines) {
+                return Err(at_line(refusal, lines));
+            }
+            rest = later;
+        }
+        Ok(lines)
+    }
+
     /// Reads a line, which has that number.
     fn line(&mut self, line: &'t [u8], number: usize) -> Result<(), Refusal>
         ensures { IsStep (line_read (seen_of self.old) line.now number) (seen_of self.new) result }
@@ -225,6 +244,23 @@ impl<'t> Reader<'t> {
         Some(InputFault { fault, line })
     }
 
+    /// Reads a whole text.
+    fn read(&mut self, text: &'t [u8]) -> Result<(), DeviceError>
+        requires { seen_of self.old ≡ nothing_seen self.old.device.size }
+        ensures owners { IfOk result (λ _. AreOwners self.new.device) }
+        ensures exact { IsRead (device_in self.old.device.size text.now) (seen_of self.new)
+            result }
+    {
+        let lines = match self.lines(text) {
+            Ok(lines) => lines,
+            Err(error) => return Err(error),
+        };
+        match self.last_fault(lines) {
+            Some(fault) => Err(DeviceError::Fault(fault)),
+            None => Ok(()),
+        }
+    }
+
     /// The fault of the end of the input, which has that number of lines: something is missing, or
     /// a node isn't in its owner's strip.
     fn last_fault(&self, lines: usize) -> Option<InputFault>
@@ -293,18 +329,22 @@ pub fn read_device(
         changed: 0,
         has_owners: false,
     };
-    let mut rest = Some(text);
-    let mut lines = 0usize;
-    while let Some(bytes) = rest {
-        let (line, later) = next_line(bytes);
-        lines = lines.saturating_add(1);
-        if let Err(refusal) = reader.line(line, lines) {
-            return Err(at_line(refusal, lines));
+    let ended = reader.read(text);
+    let Reader {
+        device,
+        place: _,
+        in_list: _,
+        awaited: _,
+        heading: _,
+        live: _,
+        changed: _,
+        has_owners: _,
+    } = reader;
+    match ended {
+        Ok(()) => Ok(device),
+        Err(error) => {
+            drop(device);
+            Err(error)
         }
-        rest = later;
-    }
-    match reader.last_fault(lines) {
-        Some(fault) => Err(DeviceError::Fault(fault)),
-        None => Ok(reader.device),
     }
 }

@@ -53,13 +53,13 @@ fn serve<'t>(
     let graph = device_graph(alloc, &device)?;
     let core = Service::new(alloc, device)?;
     let mut running = Running::new(alloc, &graph, core);
-    let served = running.serve_all(script);
-    let (operator, sections) = running.end();
-    served?;
-    Ok(RunReplies {
-        operator: operator.into_bytes(),
-        sections: sections.into_replies()?,
-    })
+    match running.serve_all(script) {
+        Ok(()) => running.into_replies(),
+        Err(error) => {
+            drop(running.end());
+            Err(error)
+        }
+    }
 }
 
 /// A script that runs: the device's graph, the core, the operator's names and jobs, and the answers
@@ -112,6 +112,24 @@ impl<'t, 'g> Running<'t, 'g> {
         Ok(())
     }
 
+    /// Ends the service. Returns the answers to the script.
+    fn into_replies(self) -> Result<RunReplies<'t>, AllocError>
+        requires { IsEven self }
+        ensures { IfOk result (λ replies. run_text replies ≡ told_so_far self.entry) }
+    {
+        let (operator, sections) = self.end();
+        match sections.into_replies() {
+            Ok(sections) => Ok(RunReplies {
+                operator: operator.into_bytes(),
+                sections,
+            }),
+            Err(error) => {
+                drop(operator);
+                Err(error)
+            }
+        }
+    }
+
     /// Ends the service. Returns the answers to the operator and to each session. Jobs that are
     /// still out are given back.
     fn end(self) -> (MemorySink, Sections<'t>)
@@ -120,12 +138,14 @@ impl<'t, 'g> Running<'t, 'g> {
         let Running {
             graph: _,
             mut core,
-            operator: _,
+            operator,
             jobs,
             operator_text,
             sections,
         } = self;
         jobs.give_back(&mut core);
+        drop(core);
+        drop(operator);
         (operator_text, sections)
     }
 

@@ -172,7 +172,9 @@ fn options_by<'a, S: AsStr>(
     words: &'a [S],
 ) -> Result<CommandLine<'a>, Error> {
     let given = read_words(alloc, program, words)?;
-    match CommandLine::of(&given) {
+    let line = CommandLine::of(&given);
+    drop(given);
+    match line {
         Ok(line) => Ok(line),
         Err(why) => Err(refusal(alloc, program, words, why)),
     }

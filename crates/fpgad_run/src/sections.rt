@@ -67,20 +67,47 @@ impl<'t> Sections<'t> {
             texts,
         } = self;
         let mut replies = Vec::new(alloc);
-        for text in texts {
-            let name = names.name(replies.len());
-            replies.push(SessionReplies {
-                name,
-                text: text.into_bytes(),
-            })?;
+        let added = add_replies(&mut replies, &names, texts);
+        drop(names);
+        match added {
+            Ok(()) => Ok(replies),
+            Err(error) => {
+                drop(replies);
+                Err(error)
+            }
         }
-        Ok(replies)
     }
+}
+
+/// Adds each text with its name, if nothing was added before.
+fn add_replies<'t>(
+    replies: &mut Vec<SessionReplies<'t>>,
+    names: &NameSet<'t>,
+    texts: Vec<MemorySink>,
+) -> Result<(), AllocError>
+    requires even { length texts.items ≡ length names.now }
+    requires empty { replies.old.items ≡ [] }
+    ensures { OnOk result
+        (map section_of replies.new.items ≡ named_sections names.now texts.items) }
+{
+    for text in texts {
+        let name = names.name(replies.len());
+        replies.push(SessionReplies {
+            name,
+            text: text.into_bytes(),
+        })?;
+    }
+    Ok(())
 }
 
 /// Ok if the answer was written, an error if memory ran out for it.
 fn check_written(answered: (Answer, Result<(), Failed>)) -> Result<(), AllocError>
     ensures { is_ok result ≡ is_ok answered.1 }
 {
-    answered.1.or(Err(AllocError))
+    let (answer, written) = answered;
+    drop(answer);
+    match written {
+        Ok(()) => Ok(()),
+        Err(_) => Err(AllocError),
+    }
 }

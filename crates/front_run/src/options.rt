@@ -89,7 +89,9 @@ pub struct FrontLine<'a> {
 /// is one.
 pub fn read_line<'a, S: AsStr>(alloc: Global, words: &'a [S]) -> Result<FrontLine<'a>, Error> {
     let given = read_words(alloc, &PROGRAM, words)?;
-    match line_of(alloc, &given) {
+    let line = line_of(alloc, &given);
+    drop(given);
+    match line {
         Ok(line) => Ok(line),
         Err(why) => Err(refusal(alloc, &PROGRAM, words, why)),
     }
@@ -129,7 +131,8 @@ fn tenant(alloc: Global, name: &str, id: &str) -> Result<Speaker, &'static str>
 fn operator(alloc: Global, id: &str) -> Result<Speaker, &'static str>
     ensures { IfOk result (λ speaker. is_tag (tag_in speaker) ≡ true) }
 {
-    drop(tag_of(alloc, "op", id)?);
+    let tag = tag_of(alloc, "op", id)?;
+    drop(tag);
     match Vec::from_slice(alloc, id.as_bytes()) {
         Ok(id) => Ok(Speaker::Operator(id)),
         Err(_) => Err(NO_MEMORY),
@@ -146,6 +149,7 @@ fn tag_of(alloc: Global, name: &str, id: &str) -> Result<Vec<u8>, &'static str>
     if owner_of(&tag).is_some() && is_tag(&tag) {
         Ok(tag)
     } else {
+        drop(tag);
         Err(BAD_ID)
     }
 }

@@ -28,7 +28,9 @@ where
     match read_line(rt.alloc(), words) {
         Ok(line) => {
             let mut client: Connection<S, W, FileLog<H::File>> = Connection::new(reader, writer);
-            Ok(run_line(rt, line, &mut client))
+            let outcome = run_line(rt, line, &mut client);
+            drop(client);
+            Ok(outcome)
         }
         Err(error) if error.kind() == ErrorKind::OutOfMemory => {
             Ok(Outcome::Stopped(FrontStop::NoMemory))
@@ -54,12 +56,15 @@ where
         ..
     } = line;
     let Ok(replies) = open_replies(rt, replies) else {
+        drop(speaker);
         return Outcome::NoReplies;
     };
     let Ok(requests) = open_requests(rt, requests) else {
+        drop((speaker, replies));
         return Outcome::NoRequests;
     };
     let Ok(feed) = LineFeed::new(rt.alloc()) else {
+        drop((speaker, replies, requests));
         return Outcome::Stopped(FrontStop::NoMemory);
     };
     let mut service = Service {
@@ -68,5 +73,7 @@ where
         replies: Replay::new(StdSource::new(replies)),
         feed,
     };
-    serve(rt, &mut service, client)
+    let outcome = serve(rt, &mut service, client);
+    drop(service);
+    outcome
 }

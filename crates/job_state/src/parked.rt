@@ -108,8 +108,13 @@ impl Parked {
         ensures job { IfOk result (λ job. job ≡ first_step id generation sources) }
         ensures going { IfOk result (λ job. is_over job ≡ false) }
     {
-        let routing = routing_of(alloc, &sources, placing)?;
-        Parked::begin(alloc, id, generation, sources, Work::Routing(routing))
+        match routing_of(alloc, &sources, placing) {
+            Ok(routing) => Parked::begin(alloc, id, generation, sources, Work::Routing(routing)),
+            Err(error) => {
+                drop(sources);
+                Err(error)
+            }
+        }
     }
 
     /// A job before its first step.
@@ -132,12 +137,17 @@ impl Parked {
             number: 1,
             sources,
         };
-        let work = Box::new(alloc, work)?;
-        Ok(Parked {
-            step,
-            work,
-            made: false,
-        })
+        match Box::new(alloc, work) {
+            Ok(work) => Ok(Parked {
+                step,
+                work,
+                made: false,
+            }),
+            Err(error) => {
+                drop(step);
+                Err(error.into())
+            }
+        }
     }
 
     /// Takes the job out, to make its next step. Takes no memory.

@@ -115,8 +115,14 @@ impl RoutingJob {
                 Stage::Going(routing),
             ))),
             Ok(IterEnd::Done(routes)) => list_routed(routed_on(alloc, arch, strip, pads, routes)),
-            Ok(IterEnd::GaveUp(_)) => Ok(Work::GaveUp),
-            Ok(IterEnd::NoPath(net)) => Ok(Work::NoPath(net as u32)),
+            Ok(IterEnd::GaveUp(routing)) => {
+                drop((arch, pads, routing));
+                Ok(Work::GaveUp)
+            }
+            Ok(IterEnd::NoPath(net)) => {
+                drop((arch, pads));
+                Ok(Work::NoPath(net as u32))
+            }
             Err((routing, _)) => Err(Work::Routing(RoutingJob::new(
                 alloc,
                 arch,

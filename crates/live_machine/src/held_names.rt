@@ -7,7 +7,7 @@ ghost use Rattle.live_machine.specs.declared.held.OpenText.TheVariants.{NoText};
 use crate::held::{Hold, OpenText, TooManyItems};
 use crate::item_lines::ItemLines;
 use backlog::Turn;
-use std::alloc::{AllocError, Global};
+use std::alloc::{AllocError, AllocFailed, Global};
 use std::marker::Model;
 
 /// The names that are held, in the order in which they were held first.
@@ -53,7 +53,7 @@ impl HeldNames {
     pub(crate) fn are_at_rest(&self) -> bool
         ensures { result ≡ are_at_rest self.now }
     {
-        self.holds.iter().all(|hold| !hold.has_items())
+        are_at_rest(self.holds.as_slice())
     }
 
     /// What is held of a name, if it is.
@@ -99,10 +99,21 @@ impl HeldNames {
         ensures err { OnErr result (self.new ≡ self.old) }
     {
         let hold = Hold::new(alloc, name, id, wait)?;
-        match self.holds.push(hold) {
+        match self.push(hold) {
             Ok(()) => Ok(()),
             Err(_) => Err(AllocError),
         }
+    }
+
+    /// One more name is held.
+    ///
+    /// # Errors
+    /// What was to be held, if memory runs out. Nothing changes then.
+    pub(crate) fn push(&mut self, hold: Hold) -> Result<(), AllocFailed<Hold>>
+        ensures names { self.new ≡ (if is_ok result then self.old ++ hold ∷ [] else self.old) }
+        ensures refused { IfErr result (λ refused. refused.value ≡ hold) }
+    {
+        self.holds.push(hold)
     }
 
     /// A line of the name comes, and waits if the name is held.
@@ -151,6 +162,13 @@ impl HeldNames {
         forget(&mut self.holds, name);
         text
     }
+}
+
+/// Whether none of them has an item.
+fn are_at_rest(holds: &[Hold]) -> bool
+    ensures { result ≡ are_at_rest holds.now }
+{
+    holds.iter().all(|hold| !hold.has_items())
 }
 
 /// The place of the first that holds the name.

@@ -127,8 +127,7 @@ pub(crate) fn form_of(line: &[u8]) -> LineForm
     line_form(without_cr(rest))
 }
 
-/// Whether it is a `wait`.
-pub(crate) fn is_wait(form: LineForm) -> bool
+fn is_wait(form: LineForm) -> bool
     ensures { result ≡ is_wait form }
 {
     matches!(form, LineForm::Asks(SessionLine::Wait))

@@ -50,7 +50,7 @@ impl<'g> Machine<'g> {
     pub fn lines(&self) -> &LiveLines<'g>
         ensures { result.now ≡ self.now.server.lines }
     {
-        &self.server.lines
+        self.server.lines()
     }
 
     /// Takes a line of a name.

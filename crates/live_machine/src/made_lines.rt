@@ -6,20 +6,23 @@ ghost use Rattle.live_machine.specs.Held.{form_of, is_wait};
 ghost use Rattle.live_machine.specs.Machine.{IsLine};
 ghost use Rattle.live_machine.specs.Workers.{nomemory_reply};
 
-use crate::item_lines;
 use line_feed::MAX_FED_LINE;
 use line_text::{MemorySink, Sink, write_slices};
 use live_lines::{LineRequest, asked_of};
 use script_text::{OperatorLine, is_name};
-use sessions::write_no_memory;
+use sessions::{LineForm, SessionLine, line_form, without_cr, write_no_memory};
 use std::alloc::{AllocError, Global};
-use tagged_lines::write_at_once;
+use tagged_lines::{split_tag, write_at_once};
 
 /// Whether a line of a name says `wait`, outside of texts.
 pub fn says_wait(line: &[u8]) -> bool
     ensures { result ≡ is_wait (form_of line.now) }
 {
-    item_lines::is_wait(item_lines::form_of(line))
+    let (_, said) = split_tag(line);
+    matches!(
+        line_form(without_cr(said)),
+        LineForm::Asks(SessionLine::Wait)
+    )
 }
 
 /// The line that says `status` with that tag.

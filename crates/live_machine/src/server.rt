@@ -16,18 +16,15 @@ use line_text::split_line;
 use live_input::LiveLines;
 use std::alloc::{AllocError, Global};
 use std::mem;
-use tagged_lines::{push_line, split_tag};
+use tagged_lines::split_tag;
 
 /// Serves lines, and gathers what is to be kept and what is to be told.
 pub(crate) struct LineServer<'g> {
     alloc: Global,
-    /// The live service.
-    pub(crate) lines: LiveLines<'g>,
+    lines: LiveLines<'g>,
     next: u64,
-    /// What is to be kept.
-    pub(crate) log: Vec<u8>,
-    /// What is to be told.
-    pub(crate) told: Vec<u8>,
+    log: Vec<u8>,
+    told: Vec<u8>,
 }
 
 impl<'g> LineServer<'g> {
@@ -45,6 +42,27 @@ impl<'g> LineServer<'g> {
             log: Vec::new(alloc),
             told: Vec::new(alloc),
         }
+    }
+
+    /// The live service.
+    pub(crate) fn lines(&self) -> &LiveLines<'g>
+        ensures { result.now ≡ self.now.lines }
+    {
+        &self.lines
+    }
+
+    /// The number of bytes that are to be kept.
+    pub(crate) fn to_keep(&self) -> usize
+        ensures { result ≡ length self.now.log.items }
+    {
+        self.log.len()
+    }
+
+    /// The number of bytes that are to be told.
+    pub(crate) fn to_tell(&self) -> usize
+        ensures { result ≡ length self.now.told.items }
+    {
+        self.told.len()
     }
 
     /// Answers a line and keeps it. Returns the reply.
@@ -268,9 +286,10 @@ impl<'g> LineServer<'g> {
             alloc: _,
             mut lines,
             next: _,
-            log: _,
-            told: _,
+            log,
+            told,
         } = self;
+        drop((log, told));
         let closed = lines.end();
         lines.close();
         let closed = closed?;
@@ -285,9 +304,10 @@ impl<'g> LineServer<'g> {
             alloc: _,
             lines,
             next: _,
-            log: _,
-            told: _,
+            log,
+            told,
         } = self;
+        drop((log, told));
         lines.close();
     }
 
@@ -302,6 +322,15 @@ impl<'g> LineServer<'g> {
         let told = mem::replace(&mut self.told, Vec::new(self.alloc));
         (log, told)
     }
+}
+
+/// Adds a line with LF.
+fn push_line(text: &mut Vec<u8>, line: &[u8]) -> Result<(), AllocError>
+    ensures { OnOk result (text.new.items ≡ text.old.items ++ with_feed line.now) }
+{
+    text.extend_from_slice(line)?;
+    text.push(b'\n')?;
+    Ok(())
 }
 
 /// Adds a text that many times.

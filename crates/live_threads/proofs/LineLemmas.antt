@@ -9,6 +9,14 @@ are_lines : (text : List ℕ) → list_all is_one_line (physical_lines text) ≡
 are_lines [] = refl
 are_lines (b ∷ rest) = grind (arith, are_lines rest)
 
+pub kept_whole : (line : List ℕ) → length line ≤ 1048640 → line ≡ kept_of line
+unfolding kept_of
+kept_whole line short = sym (take_all 1048640 line short)
+
+pub kept_part : (line part : List ℕ) → part ≡ take 1048640 line → part ≡ kept_of line
+unfolding kept_of
+kept_part line part is = is
+
 -- the first line of what is left
 pub line_left : (text first after kept : List ℕ) → physical_lines text ≡ first ∷ physical_lines after → kept ≡ kept_of first → cut_lines text ≡ kept ∷ cut_lines after
 line_left text first after kept cut is = ap (map kept_of) cut ∙ ap (λ k. k ∷ cut_lines after) (sym is)
@@ -17,3 +25,6 @@ pub first_is_line : (text first after kept : List ℕ) → physical_lines text �
 first_is_line text first after kept cut is =
     let P : List (List ℕ) → Type 0 = λ ls. list_all is_one_line ls ≡ true in
     cut_is_line first kept is (and_parts (is_one_line first) (list_all is_one_line (physical_lines after)) (subst P cut (are_lines text))).0
+
+pub kept_short : (line : List ℕ) → (1048640 < 0) ⊎ (length line < 1048640) → line ≡ kept_of line
+kept_short line h1 = grind (arith, kept_whole)

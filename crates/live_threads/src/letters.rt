@@ -2,53 +2,95 @@
 
 use job_state::{AnyJob, Back, Done};
 
+/// A job with a step to make, and the offset of its strip.
+pub(crate) struct StepOrder {
+    job: AnyJob,
+    offset: Option<u32>,
+}
+
+impl Drop for StepOrder {
+    fn drop(self) {
+        let StepOrder { job, offset: _ } = self;
+        drop(job.into_back().park());
+    }
+}
+
+impl StepOrder {
+    pub(crate) fn new(job: AnyJob, offset: Option<u32>) -> Self {
+        StepOrder { job, offset }
+    }
+
+    pub(crate) fn into_parts(self) -> (AnyJob, Option<u32>) {
+        let StepOrder { job, offset } = self;
+        (job, offset)
+    }
+}
+
 /// What a worker does next.
+#[derive(Drop)]
 pub(crate) enum Order {
-    /// It makes a step of that job, whose strip has that offset.
-    Make(AnyJob, Option<u32>),
+    /// It makes a step.
+    Make(StepOrder),
     /// It pauses before the step of that tenancy's job is made again, for which memory ran out that
     /// many times in a row.
     Pause(u32, u32),
 }
 
-impl Drop for Order {
+/// A step that a worker made.
+pub(crate) struct MadeStep {
+    done: Done,
+}
+
+impl Drop for MadeStep {
     fn drop(self) {
-        match self {
-            Order::Make(job, _) => drop(job.into_back().park()),
-            Order::Pause(_, _) => {}
-        }
+        let MadeStep { done } = self;
+        drop(done.park());
+    }
+}
+
+impl MadeStep {
+    pub(crate) fn new(done: Done) -> Self {
+        MadeStep { done }
+    }
+
+    pub(crate) fn into_done(self) -> Done {
+        let MadeStep { done } = self;
+        done
+    }
+}
+
+/// A job for whose step memory ran out.
+pub(crate) struct LackingJob {
+    back: Back,
+}
+
+impl Drop for LackingJob {
+    fn drop(self) {
+        let LackingJob { back } = self;
+        drop(back.park());
+    }
+}
+
+impl LackingJob {
+    pub(crate) fn new(back: Back) -> Self {
+        LackingJob { back }
+    }
+
+    pub(crate) fn into_back(self) -> Back {
+        let LackingJob { back } = self;
+        back
     }
 }
 
 /// What a worker did.
+#[derive(Drop)]
 pub(crate) enum StepLetter {
     /// It made a step.
-    Made(Done),
-    /// Memory ran out for a step of that job.
-    NoMemory(Back),
+    Made(MadeStep),
+    /// Memory ran out for a step.
+    NoMemory(LackingJob),
     /// It paused for that tenancy.
     Paused(u32),
-}
-
-impl StepLetter {
-    /// The job that is given back, if there is one.
-    pub(crate) fn into_back(self) -> Option<Back> {
-        match self {
-            StepLetter::Made(done) => Some(done.into_back()),
-            StepLetter::NoMemory(back) => Some(back),
-            StepLetter::Paused(_) => None,
-        }
-    }
-}
-
-impl Drop for StepLetter {
-    fn drop(self) {
-        match self {
-            StepLetter::Made(done) => drop(done.park()),
-            StepLetter::NoMemory(back) => drop(back.park()),
-            StepLetter::Paused(_) => {}
-        }
-    }
 }
 
 /// How the input ended.

@@ -16,7 +16,10 @@ impl Waiting {
     pub(crate) fn put(&mut self, order: Order) -> Result<(), AllocError> {
         match self.orders.push_back(order) {
             Ok(()) => Ok(()),
-            Err(_) => Err(AllocError),
+            Err(failed) => {
+                drop(failed);
+                Err(AllocError)
+            }
         }
     }
 }

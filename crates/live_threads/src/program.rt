@@ -5,12 +5,13 @@ ghost use Rattle.live_threads.specs.Prelude.{NoMemory, status_of};
 ghost use Rattle.live_threads.specs.Endings.{IsProgramEnd, IsProgramRun, run_status};
 
 use crate::outlet::{Devices, Outlet};
+use crate::running::RunEnd;
 use crate::threaded::run_threads;
 use clap::Error;
 use clap::error::ErrorKind;
 use dialogue::{Connection, Dialogue, FileLog};
 use line_text::{Sink, Source};
-use live_run::{LockLog, Outcome, read_options, run_line};
+use live_run::{CommandLine, LockLog, Outcome, read_options, run_line};
 use std::convert::AsStr;
 use std::fmt::Display;
 use std::io;
@@ -62,19 +63,42 @@ where
         (exit_status result.status) }
 {
     match words {
-        Ok(words) => {
-            let run = run_words(rt, words.as_slice(), reader, writer);
-            ProgramEnd {
-                status: report_run(rt, run.outcome),
-                connection: run.connection,
-                devices: run.devices,
-            }
-        }
+        Ok(words) => run_called(rt, words.as_slice(), reader, writer),
         Err(error) => ProgramEnd {
             status: report_unread(rt, error),
             connection: Some(Connection::new(reader, writer)),
             devices: None,
         },
+    }
+}
+
+/// Runs it with words that could be read.
+fn run_called<
+    H: Files + Threads + Wait + Clock + AllocGlobal + Eprint + Sync,
+    S: Source + Drop,
+    W: Sink + Drop + Send,
+>(
+    rt: &H,
+    words: &[String],
+    reader: S,
+    writer: W,
+) -> ProgramEnd<Connection<S, W, FileLog<H::File>>, Devices<W, FileLog<H::File>>>
+where
+    H::File: LockLog + Send,
+    ensures { IsProgramEnd (S.remaining reader) (W.contents writer)
+        (option_map (⟦<Connection<S, W, FileLog<H::File>> as Dialogue>⟧.view) result.connection)
+        (option_map (⟦<Devices<W, FileLog<H::File>> as Outlet>⟧.view) result.devices)
+        (exit_status result.status) }
+{
+    let ProgramRun {
+        outcome,
+        connection,
+        devices,
+    } = run_words(rt, words, reader, writer);
+    ProgramEnd {
+        status: report_run(rt, outcome),
+        connection,
+        devices,
     }
 }
 
@@ -100,23 +124,8 @@ where
         result.outcome }
 {
     match read_options(rt.alloc(), words) {
-        Ok(line) if line.workers > 0 => {
-            let end = run_threads(rt, &line, reader, writer);
-            ProgramRun {
-                outcome: Ok(end.outcome),
-                connection: None,
-                devices: end.devices,
-            }
-        }
-        Ok(line) => {
-            let mut connection = Connection::new(reader, writer);
-            let outcome = run_line(rt, &line, &mut connection);
-            ProgramRun {
-                outcome: Ok(outcome),
-                connection: Some(connection),
-                devices: None,
-            }
-        }
+        Ok(line) if line.workers > 0 => with_workers(rt, &line, reader, writer),
+        Ok(line) => run_alone(rt, &line, reader, writer),
         Err(error) => ProgramRun {
             outcome: refusal_of(error),
             connection: Some(Connection::new(reader, writer)),
@@ -133,6 +142,55 @@ fn refusal_of(error: Error) -> Result<Outcome, Error>
         return Ok(Outcome::NoMemory);
     }
     Err(error)
+}
+
+/// Serves without workers as the command line says.
+fn run_alone<H: Files + Wait + AllocGlobal + Eprint, S: Source + Drop, W: Sink + Drop>(
+    rt: &H,
+    line: &CommandLine<'_>,
+    reader: S,
+    writer: W,
+) -> ProgramRun<Connection<S, W, FileLog<H::File>>, Devices<W, FileLog<H::File>>>
+where
+    H::File: LockLog + Send,
+    ensures { IsProgramRun (S.remaining reader) (W.contents writer)
+        (option_map (⟦<Connection<S, W, FileLog<H::File>> as Dialogue>⟧.view) result.connection)
+        (option_map (⟦<Devices<W, FileLog<H::File>> as Outlet>⟧.view) result.devices)
+        result.outcome }
+{
+    let mut connection = Connection::new(reader, writer);
+    let outcome = run_line(rt, line, &mut connection);
+    ProgramRun {
+        outcome: Ok(outcome),
+        connection: Some(connection),
+        devices: None,
+    }
+}
+
+/// Serves with workers as the command line says.
+fn with_workers<
+    H: Files + Threads + Wait + Clock + AllocGlobal + Eprint + Sync,
+    S: Source + Drop,
+    W: Sink + Drop + Send,
+>(
+    rt: &H,
+    line: &CommandLine<'_>,
+    reader: S,
+    writer: W,
+) -> ProgramRun<Connection<S, W, FileLog<H::File>>, Devices<W, FileLog<H::File>>>
+where
+    H::File: LockLog + Send,
+    ensures { IsProgramRun (S.remaining reader) (W.contents writer)
+        (option_map (⟦<Connection<S, W, FileLog<H::File>> as Dialogue>⟧.view) result.connection)
+        (option_map (⟦<Devices<W, FileLog<H::File>> as Outlet>⟧.view) result.devices)
+        result.outcome }
+{
+    let RunEnd { outcome, devices } = run_threads(rt, line, reader, writer);
+    ProgramRun {
+        outcome: Ok(outcome),
+        connection: None,
+        devices,
+    }
 }
 
 /// Writes the last message of a run to standard error, and returns its status.

@@ -13,7 +13,6 @@ use line_text::Source;
 use rtrb::{Producer, PushError};
 use std::alloc::{AllocError, AllocGlobal, Global};
 use std::sync::Wait;
-use tagged_lines::push_line;
 
 /// What is left of a reader: its end of the ring, and how the input ended. None if the service was
 /// over before.
@@ -38,12 +37,14 @@ pub(crate) fn read_lines<S: Source + Drop, R: Wait + AllocGlobal>(
     let mut lines = lines;
     let mut source = Replay::new(reader);
     if !crew.mailbox.await_ready(rt) {
+        drop(source);
         return ReaderEnd { lines, end: None };
     }
     let end = match LineFeed::new(rt.alloc()) {
         Ok(mut feed) => feed_lines(rt, crew, &mut lines, &mut feed, &mut source),
         Err(_) => Some(InputEnd::NoMemory),
     };
+    drop(source);
     if let Some(end) = end {
         crew.mailbox.note_end(rt, end);
     }
@@ -98,6 +99,15 @@ fn take_lines(alloc: Global, feed: &mut LineFeed) -> Result<Vec<u8>, AllocError>
     Ok(batch)
 }
 
+/// Adds a line with LF.
+fn push_line(batch: &mut Vec<u8>, line: &[u8]) -> Result<(), AllocError>
+    ensures { OnOk result (batch.new.items ≡ batch.old.items ++ with_feed line.now) }
+{
+    batch.extend_from_slice(line)?;
+    batch.push(b'\n')?;
+    Ok(())
+}
+
 /// Puts lines into the ring. Waits for room. Returns whether the service goes on.
 fn hand_over<R: Wait>(rt: &R, crew: &Crew, lines: &mut Producer<Vec<u8>>, batch: Vec<u8>) -> bool
     ensures ring { SameProducer lines.old lines.new }
@@ -112,6 +122,7 @@ fn hand_over<R: Wait>(rt: &R, crew: &Crew, lines: &mut Producer<Vec<u8>>, batch:
             Err(PushError::Full(back)) => batch = back,
         }
         if !crew.mailbox.await_room(rt, lines) {
+            drop(batch);
             return false;
         }
     }

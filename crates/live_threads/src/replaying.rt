@@ -64,23 +64,9 @@ pub(crate) fn replay<'g, P: Source + Drop, R: Wait + AllocGlobal, O: Outlet>(
     ensures stops { OnErr result (StopsReplay told (without_workers (state_in lines.entry))
         (P.remaining past) (O.view outlet.old) (O.view outlet.new)) }
 {
-    let mut replayed = Replayed {
-        site,
-        lines,
-        out: Vec::new(site.rt.alloc()),
-        taken: 0,
-        held: Vec::new(site.rt.alloc()),
-        next: 1,
-    };
+    let mut replayed = Replayed::new(site, lines);
     let served = replayed.serve_past(past, told, outlet);
-    let Replayed {
-        site: _,
-        lines,
-        out: _,
-        taken: _,
-        held: _,
-        next,
-    } = replayed;
+    let (lines, next) = replayed.into_parts();
     match served {
         Ok(more) => Ok((lines, Resumed { next, more })),
         Err(outcome) => {
@@ -113,6 +99,40 @@ fn tell_reply<O: Outlet>(
 }
 
 impl<'g, R: Wait + AllocGlobal> Replayed<'g, R> {
+    /// A live service that has served no line of its log.
+    fn new(site: Site<'g, R>, lines: LiveLines<'g>) -> Self
+        ensures lines { result.lines ≡ lines.entry }
+        ensures taken { result.taken ≡ 0 }
+        ensures next { result.next ≡ 1 }
+    {
+        let alloc = site.rt.alloc();
+        Replayed {
+            site,
+            lines,
+            out: Vec::new(alloc),
+            taken: 0,
+            held: Vec::new(alloc),
+            next: 1,
+        }
+    }
+
+    /// The live service, and the number of the next line.
+    fn into_parts(self) -> (LiveLines<'g>, u64)
+        ensures lines { result.0 ≡ self.entry.lines }
+        ensures next { result.1 ≡ self.entry.next }
+    {
+        let Replayed {
+            site: _,
+            lines,
+            out,
+            taken: _,
+            held,
+            next,
+        } = self;
+        drop((out, held));
+        (lines, next)
+    }
+
     /// Serves the lines of a log, and writes the replies to those after the line `told`. Returns
     /// lines that were served after them.
     fn serve_past<P: Source + Drop, O: Outlet>(
@@ -240,8 +260,13 @@ impl<'g, R: Wait + AllocGlobal> Replayed<'g, R> {
         let reply = self.lines.answer(self.next, line)?;
         self.next += 1;
         let has_taken = reply.starts_with(b"op ok job ");
-        self.note(asked, has_taken)?;
-        Ok(reply)
+        match self.note(asked, has_taken) {
+            Ok(()) => Ok(reply),
+            Err(error) => {
+                drop(reply);
+                Err(error)
+            }
+        }
     }
 
     /// Waits until the job that a line may need is home.

@@ -61,13 +61,18 @@ pub(crate) fn serve_with_workers<
         ready: line.ready,
         text_limit: line.options.text_limit(),
     };
-    match RingBuffer::new(rt.alloc(), MOST_AHEAD) {
+    let end = match RingBuffer::new(rt.alloc(), MOST_AHEAD) {
         Ok((producer, consumer)) => {
             let input = InputLines { producer, reader };
             run_threads(site, line.workers, opened, consumer, input)
         }
-        Err(_) => RunEnd::not_begun(Outcome::NoMemory),
-    }
+        Err(_) => {
+            drop((opened, reader));
+            RunEnd::not_begun(Outcome::NoMemory)
+        }
+    };
+    drop(crew);
+    end
 }
 
 impl<W: Sink + Drop, L: Log + Drop> RunEnd<W, L> {
@@ -156,6 +161,7 @@ fn run_in<
         (option_map (view_of W.contents W.has_failed L.kept L.has_failed) result.devices) result.outcome }
 {
     if !start_workers(scope, site, workers) {
+        drop((opened, lines, input));
         site.crew.close(site.rt);
         return RunEnd::not_begun(Outcome::NoMemory);
     }
@@ -174,7 +180,8 @@ fn run_in<
             let read = read_lines(site.rt, site.crew, producer, reader);
             end_of(read, server.join(site.rt))
         }
-        Err(_) => {
+        Err(error) => {
+            drop((error, input));
             site.crew.close(site.rt);
             RunEnd::not_begun(Outcome::NoMemory)
         }
@@ -191,12 +198,16 @@ fn end_of<W: Sink + Drop, L: Log + Drop>(read: ReaderEnd, served: ServerEnd<W, L
         (received served.lines) read.end served.outcome }
     ensures other { (result.outcome ≡ served.outcome) ⊎ (result.outcome ≡ Stopped Input) }
 {
+    let ReaderEnd {
+        lines: producer,
+        end,
+    } = read;
     let ServerEnd {
         lines: consumer,
         devices,
         outcome,
     } = served;
-    let are_all = are_taken(consumer, read.lines) && read.end == Some(InputEnd::Done);
+    let are_all = are_taken(consumer, producer) && end == Some(InputEnd::Done);
     let outcome = if are_all || outcome != Outcome::Done {
         outcome
     } else {
@@ -217,6 +228,7 @@ fn are_taken(consumer: Consumer<Vec<u8>>, producer: Producer<Vec<u8>>) -> bool
     let mut consumer = consumer;
     let mut producer = producer;
     let left = consumer.slots_beside(&mut producer);
+    drop((producer, consumer));
     left == 0
 }
 
@@ -227,11 +239,12 @@ fn start_workers<'s, E, H: Threads + Wait + Clock + Sync + 's>(
     count: u32,
 ) -> bool {
     for _ in 0..count {
-        if scope
-            .spawn(move || run_worker(site.rt, site.crew, site.graph))
-            .is_err()
-        {
-            return false;
+        match scope.spawn(move || run_worker(site.rt, site.crew, site.graph)) {
+            Ok(worker) => drop(worker),
+            Err(error) => {
+                drop(error);
+                return false;
+            }
         }
     }
     true

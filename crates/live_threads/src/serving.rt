@@ -12,7 +12,7 @@ use crate::outlet::Outlet;
 use crate::steps::{give_orders, put_steps};
 use crate::watch::Watch;
 use dialogue::FailedDevice;
-use line_feed::kept_bytes;
+use line_feed::MAX_FED_LINE;
 use line_text::split_line;
 use live_machine::{MOST_TOLD, Machine};
 use live_run::Outcome;
@@ -199,7 +199,9 @@ fn serve_lines<R: Wait, O: Outlet>(
             return Ok(count > 0);
         };
         crew.mailbox.note_room(rt);
-        serve_batch(machine, outlet, batch.as_slice())?;
+        let served = serve_batch(machine, outlet, batch.as_slice());
+        drop(batch);
+        served?;
     }
     Ok(true)
 }
@@ -220,13 +222,23 @@ fn serve_batch<O: Outlet>(
     let mut rest = batch;
     while !rest.is_empty() {
         let (line, after) = split_line(rest);
-        machine.line(kept_bytes(line))?;
+        machine.line(cut_line(line))?;
         if machine.to_tell() > MOST_TOLD {
             deliver(machine, outlet)?;
         }
         rest = after;
     }
     Ok(())
+}
+
+/// The bytes that are kept of a line.
+fn cut_line(line: &[u8]) -> &[u8]
+    ensures { result.now ≡ kept_of line.now }
+{
+    match line.get(..MAX_FED_LINE) {
+        Some(cut) => cut,
+        None => line,
+    }
 }
 
 /// Keeps what is to be kept, and then tells what is to be told.

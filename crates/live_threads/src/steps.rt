@@ -5,7 +5,7 @@ ghost use Rattle.live_threads.specs.Serving.{IsServed};
 
 use crate::crew::Crew;
 use crate::fault::Fault;
-use crate::letters::{Order, StepLetter};
+use crate::letters::{Order, StepLetter, StepOrder};
 use live_machine::{Machine, StepEnd};
 use std::sync::Wait;
 
@@ -39,33 +39,34 @@ fn put_step<R: Wait>(
     ensures served { OnOk result ((view : View) →
         IsServed (machine_of machine.old) view [] (machine_of machine.new) view) }
 {
-    if let Some((id, tries)) = letter.put_into(machine)? {
+    if let Some((id, tries)) = put_letter(machine, letter)? {
         crew.order(rt, Order::Pause(id, tries))?;
     }
     Ok(())
 }
 
-impl StepLetter {
-    /// Puts it. Returns the tenancy for whose step memory ran out, and how many times in a row.
-    fn put_into(self, machine: &mut Machine<'_>) -> Result<Option<(u32, u32)>, Fault>
-        requires ready { IsReady machine.old }
-        ensures ready { OnOk result (IsReady machine.new) }
-        ensures served { OnOk result ((view : View) →
-            IsServed (machine_of machine.old) view [] (machine_of machine.new) view) }
-    {
-        match self {
-            StepLetter::Made(done) => {
-                let id = done.id();
-                Ok(lack_of(id, machine.put(done)?))
-            }
-            StepLetter::NoMemory(back) => {
-                let id = back.id();
-                Ok(lack_of(id, machine.give_back(back)?))
-            }
-            StepLetter::Paused(id) => {
-                machine.retry(id)?;
-                Ok(None)
-            }
+/// Puts what a worker did. Returns the tenancy for whose step memory ran out, and how many times in
+/// a row.
+fn put_letter(machine: &mut Machine<'_>, letter: StepLetter) -> Result<Option<(u32, u32)>, Fault>
+    requires ready { IsReady machine.old }
+    ensures ready { OnOk result (IsReady machine.new) }
+    ensures served { OnOk result ((view : View) →
+        IsServed (machine_of machine.old) view [] (machine_of machine.new) view) }
+{
+    match letter {
+        StepLetter::Made(made) => {
+            let done = made.into_done();
+            let id = done.id();
+            Ok(lack_of(id, machine.put(done)?))
+        }
+        StepLetter::NoMemory(job) => {
+            let back = job.into_back();
+            let id = back.id();
+            Ok(lack_of(id, machine.give_back(back)?))
+        }
+        StepLetter::Paused(id) => {
+            machine.retry(id)?;
+            Ok(None)
         }
     }
 }
@@ -99,7 +100,7 @@ pub(crate) fn give_orders<R: Wait>(
             break;
         };
         let offset = machine.lines().live().service().offset(job.id());
-        waiting.put(Order::Make(job, offset))?;
+        waiting.put(Order::Make(StepOrder::new(job, offset)))?;
         given = given.saturating_add(1);
     }
     drop(waiting);

@@ -39,18 +39,60 @@ where
         (option_map (⟦<Devices<W, FileLog<H::File>> as Outlet>⟧.view) result.devices)
         result.outcome }
 {
-    let architecture = match read_architecture(rt, line.arch) {
-        Ok(architecture) => architecture,
-        Err(ReadError::Failed) => return RunEnd::not_begun(Outcome::ArchUnreadable),
-        Err(ReadError::NoMemory) => return RunEnd::not_begun(Outcome::NoMemory),
-    };
-    let device = match device_of(rt.alloc(), line, architecture.as_slice()) {
+    match read_architecture(rt, line.arch) {
+        Ok(architecture) => {
+            let end = run_over(rt, line, architecture.as_slice(), reader, writer);
+            drop(architecture);
+            end
+        }
+        Err(error) => {
+            drop((reader, writer));
+            RunEnd::not_begun(unread_architecture(error))
+        }
+    }
+}
+
+/// How a service ends whose architecture can't be read.
+fn unread_architecture(error: ReadError) -> Outcome
+    ensures { result ≢ Outcome.Done }
+{
+    match error {
+        ReadError::Failed => Outcome::ArchUnreadable,
+        ReadError::NoMemory => Outcome::NoMemory,
+    }
+}
+
+/// Serves over that architecture, with a log if the command line names one.
+fn run_over<
+    H: Files + Threads + Wait + Clock + AllocGlobal + Eprint + Sync,
+    S: Source + Drop,
+    W: Sink + Drop + Send,
+>(
+    rt: &H,
+    line: &CommandLine<'_>,
+    architecture: &[u8],
+    reader: S,
+    writer: W,
+) -> RunEnd<W, FileLog<H::File>>
+where
+    H::File: LockLog + Send,
+    ensures { RunsThreaded line.now (S.remaining reader) (W.contents writer)
+        (option_map (⟦<Devices<W, FileLog<H::File>> as Outlet>⟧.view) result.devices)
+        result.outcome }
+{
+    let device = match device_of(rt.alloc(), line, architecture) {
         Ok(device) => device,
-        Err(outcome) => return RunEnd::not_begun(outcome),
+        Err(outcome) => {
+            drop((reader, writer));
+            return RunEnd::not_begun(outcome);
+        }
     };
-    match open_streams(rt, line, architecture.as_slice(), writer) {
+    match open_streams(rt, line, architecture, writer) {
         Ok(streams) => run_device(rt, line, device, streams, reader),
-        Err(outcome) => RunEnd::not_begun(outcome),
+        Err(outcome) => {
+            drop((device, reader));
+            RunEnd::not_begun(outcome)
+        }
     }
 }
 
@@ -97,7 +139,10 @@ where
                 log: Some(log),
             },
         }),
-        Err(outcome) => Err(outcome),
+        Err(outcome) => {
+            drop(writer);
+            Err(outcome)
+        }
     }
 }
 
@@ -124,6 +169,7 @@ where
 {
     let Streams { past, devices } = streams;
     let Ok(graph) = device_graph(rt.alloc(), &device) else {
+        drop((device, past, devices, reader));
         return RunEnd::not_begun(Outcome::NoMemory);
     };
     match Service::new(rt.alloc(), device) {
@@ -136,6 +182,9 @@ where
             };
             serve_with_workers(rt, line, &graph, opened, reader)
         }
-        Err(_) => RunEnd::not_begun(Outcome::NoMemory),
+        Err(_) => {
+            drop((past, devices, reader));
+            RunEnd::not_begun(Outcome::NoMemory)
+        }
     }
 }

@@ -1,7 +1,6 @@
 //! A worker on its thread.
 use crate::crew::Crew;
-use crate::letters::{Order, StepLetter};
-use job_state::AnyJob;
+use crate::letters::{LackingJob, MadeStep, Order, StepLetter, StepOrder};
 use service_core::window_for;
 use std::sync::Wait;
 use std::thread;
@@ -14,37 +13,37 @@ pub(crate) fn run_worker<R: Wait + Clock>(rt: &R, crew: &Crew, graph: &DeviceGra
         let Some(order) = crew.orders.take(rt) else {
             return;
         };
-        put_letter(rt, crew, order.carry_out(rt, graph));
+        let letter = carry_out(rt, graph, order);
+        put_letter(rt, crew, letter);
     }
     unreachable!()
 }
 
-impl Order {
-    /// Makes a step, or pauses.
-    fn carry_out<R: Clock>(self, rt: &R, graph: &DeviceGraph) -> StepLetter {
-        match self {
-            Order::Make(job, offset) => make_step(graph, job, offset),
-            Order::Pause(id, tries) => {
-                pause(rt, tries);
-                StepLetter::Paused(id)
-            }
+/// Makes a step, or pauses.
+fn carry_out<R: Clock>(rt: &R, graph: &DeviceGraph, order: Order) -> StepLetter {
+    match order {
+        Order::Make(order) => make_step(graph, order),
+        Order::Pause(id, tries) => {
+            pause(rt, tries);
+            StepLetter::Paused(id)
         }
     }
 }
 
 /// Makes a step through the window at the offset of its strip. A job that has no such window is
 /// given back: it would be no job of this device.
-fn make_step(graph: &DeviceGraph, job: AnyJob, offset: Option<u32>) -> StepLetter {
+fn make_step(graph: &DeviceGraph, order: StepOrder) -> StepLetter {
+    let (job, offset) = order.into_parts();
     let window = match offset {
         Some(offset) => window_for(&job, graph, offset),
         None => None,
     };
     let Some(window) = window else {
-        return StepLetter::NoMemory(job.into_back());
+        return StepLetter::NoMemory(LackingJob::new(job.into_back()));
     };
     match job.step(&window) {
-        Ok(done) => StepLetter::Made(done),
-        Err(back) => StepLetter::NoMemory(back),
+        Ok(done) => StepLetter::Made(MadeStep::new(done)),
+        Err(back) => StepLetter::NoMemory(LackingJob::new(back)),
     }
 }
 

@@ -46,7 +46,11 @@ pub fn longest_path(alloc: Global, circuit: &Circuit) -> Result<Longest, AllocEr
     let nets = circuit.nets.len();
     let found = longest_ways(alloc, nets, &starts, &circuit.tables)?;
     match found {
-        Some(reach) => longest_in(alloc, &reach, &circuit.tables, &ends),
+        Some(reach) => {
+            let longest = longest_in(alloc, &reach, &circuit.tables, &ends);
+            drop(reach);
+            longest
+        }
         None => unreachable!(),
     }
 }
@@ -84,7 +88,10 @@ fn has_loop(alloc: Global, circuit: &Circuit) -> Result<bool, AllocError>
     }
     let found = longest_ways(alloc, nets, &starts, &circuit.tables)?;
     match found {
-        Some(_reach) => Ok(false),
+        Some(reach) => {
+            drop(reach);
+            Ok(false)
+        }
         None => Ok(true),
     }
 }

@@ -1,5 +1,5 @@
 //! A loop of tables.
-ghost use Rattle.std.specs.Prelude.{◌≡◌, ℕ, ◌<◌, ◌≤◌, All, IfOk, MatchOption, length, slice_index};
+ghost use Rattle.std.specs.Prelude.{◌≡◌, ℕ, ◌<◌, ◌≤◌, All, IfOk, MatchOption, drop, length, slice_index};
 ghost use Rattle.blif.specs.LawfulCircuits.{IsCircuit, IsTableWithin};
 ghost use Rattle.longest_path.specs.Paths.{HasLoop, IsLoop};
 ghost use Rattle.longest_path.specs.Lasting.{IsLasting, IsLedTo, IsMarked, IsMarkedBack, IsMissing, IsPlaceOf};
@@ -18,9 +18,24 @@ pub fn find_loop(alloc: Global, circuit: &Circuit) -> Result<Option<Vec<usize>>,
         (λ numbers. IsLoop circuit.now.tables numbers.items)) }
 {
     let marks = lasting_nets(alloc, circuit.nets.len(), &circuit.tables)?;
+    let found = loop_among(alloc, &marks, &circuit.tables);
+    drop(marks);
+    found
+}
+
+/// The numbers of tables that form a loop, if a net is marked.
+fn loop_among(
+    alloc: Global,
+    marks: &[bool],
+    tables: &Tables,
+) -> Result<Option<Vec<usize>>, AllocError>
+    requires { IsLasting tables.now marks.now }
+    ensures { IfOk result (λ found. MatchOption found (HasLoop tables.now → ⊥)
+        (λ numbers. IsLoop tables.now numbers.items)) }
+{
     for net in 0..marks.len() {
         if marks[net] {
-            return Ok(Some(loop_before(alloc, &marks, &circuit.tables, net as u32)?));
+            return Ok(Some(loop_before(alloc, marks, tables, net as u32)?));
         }
     }
     Ok(None)
@@ -43,7 +58,7 @@ fn loop_before(
     let mut net = to;
     for _step in 0..marks.len() + 1 {
         if let Some(place) = place_of(&nets, net) {
-            return numbers[place..].to_vec(alloc);
+            return tail_of(alloc, &numbers, place);
         }
         let Some(back) = marked_back(marks, tables, net) else {
             unreachable!()
@@ -53,6 +68,14 @@ fn loop_before(
         net = back.net;
     }
     unreachable!()
+}
+
+/// The numbers from that place on.
+fn tail_of(alloc: Global, numbers: &[usize], place: usize) -> Result<Vec<usize>, AllocError>
+    requires { place ≤ length numbers.now }
+    ensures { IfOk result (λ tail. tail.items ≡ drop place numbers.now) }
+{
+    numbers[place..].to_vec(alloc)
 }
 
 /// The place of a net among these; `None` if it is not there.

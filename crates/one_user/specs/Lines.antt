@@ -1,9 +1,17 @@
 -- The lines that a run writes.
 use Rattle.std.specs.Prelude.{ℕ, ◌+◌, ◌-◌, ◌^◌, min, List, [], ◌∷◌, ◌++◌, codes, decimal, Option, Some, None}
 use Rattle.std.specs.List.{concat}
-use Rattle.vpr_files.specs.NodeText.{kind_word}
 use Rattle.one_user.specs.Prelude.{ChannelUse, channel_line, Strip, pass_count, Progress, Packing, Packed, Placing, Routing, Routed, GaveUp, NoPath, Node, NodeKind, Source, Sink, Opin, Ipin, ChanX, ChanY, temperature_at}
 use Rattle.one_user.specs.declared.figures.Figures.{Figures}
+
+-- the word of the route file for a kind of node
+abbrev pub kind_word : NodeKind → List ℕ
+kind_word Source = codes "SOURCE"
+kind_word Sink = codes "SINK"
+kind_word Opin = codes "OPIN"
+kind_word Ipin = codes "IPIN"
+kind_word ChanX = codes "CHANX"
+kind_word ChanY = codes "CHANY"
 
 -- the line of a cluster, of a packing with at most that number of clusters
 abbrev pub cluster_line : ℕ → ℕ → List ℕ

@@ -84,7 +84,11 @@ impl OwnDevice {
                 strip,
                 graph,
             }),
-            Err(_) => Err(AllocError),
+            Err(failed) => {
+                drop(failed);
+                drop(graph);
+                Err(AllocError)
+            }
         }
     }
 
@@ -104,7 +108,9 @@ impl OwnDevice {
         };
         let arch = self.arch.clone()?;
         let mut slot = Slot::new(self.alloc, 1, arch, self.strip);
-        upload(&mut slot, &window, request, teller)
+        let run = upload(&mut slot, &window, request, teller);
+        drop(slot);
+        run
     }
 
     /// Packs a netlist, and returns its counts or why it is refused. It writes one line for each
@@ -123,7 +129,9 @@ impl OwnDevice {
         };
         let arch = self.arch.clone()?;
         let mut slot = Slot::new(self.alloc, 1, arch, self.strip);
-        count(&mut slot, &window, request, teller)
+        let counted = count(&mut slot, &window, request, teller);
+        drop(slot);
+        counted
     }
 
     /// Packs and places a netlist, or returns why it is refused. Fails with [`AllocError`] if
@@ -155,8 +163,15 @@ impl OwnDevice {
     {
         let LastIteration { end, number } = self.route(placing)?;
         match end {
-            IterEnd::Done(routes) => Ok(Some(self.run_by(placing, &routes, number)?)),
-            _ => Ok(None),
+            IterEnd::Done(routes) => {
+                let run = self.run_by(placing, &routes, number);
+                drop(routes);
+                Ok(Some(run?))
+            }
+            end => {
+                drop(end);
+                Ok(None)
+            }
         }
     }
 
@@ -168,8 +183,16 @@ impl OwnDevice {
     {
         let LastIteration { end, number } = self.route(placing)?;
         match end {
-            IterEnd::Done(routes) => self.run_by(placing, &routes, number),
-            end => run_left(self.alloc, placing, &end),
+            IterEnd::Done(routes) => {
+                let run = self.run_by(placing, &routes, number);
+                drop(routes);
+                run
+            }
+            end => {
+                let run = run_left(self.alloc, placing, &end);
+                drop(end);
+                run
+            }
         }
     }
 
@@ -193,8 +216,15 @@ impl OwnDevice {
             (task_on self.now request.entry.netlist.now request.entry.seed request.entry.effort)) }
     {
         match self.place(request)? {
-            PlacingEnd::Placed(placing) => self.crowding_of(&placing),
-            PlacingEnd::Refused(_) => Ok(None),
+            PlacingEnd::Placed(placing) => {
+                let crowding = self.crowding_of(&placing);
+                drop(placing);
+                crowding
+            }
+            PlacingEnd::Refused(refusal) => {
+                drop(refusal);
+                Ok(None)
+            }
         }
     }
 
@@ -207,8 +237,15 @@ impl OwnDevice {
     {
         let LastIteration { end, number: _ } = self.route(placing)?;
         match end {
-            IterEnd::GaveUp(routing) => Ok(Some(self.crowding_by(placing, &routing)?)),
-            _ => Ok(None),
+            IterEnd::GaveUp(routing) => {
+                let crowding = self.crowding_by(placing, &routing);
+                drop(routing);
+                Ok(Some(crowding?))
+            }
+            end => {
+                drop(end);
+                Ok(None)
+            }
         }
     }
 
@@ -227,11 +264,17 @@ impl OwnDevice {
             unreachable!()
         };
         let (overused, nodes) = crowded_nodes(self.alloc, &window, routing)?;
-        Ok(Crowding {
-            packed: placing.shared_packed().clone()?,
-            rows: self.strip.rows,
-            overused,
-            nodes,
-        })
+        match placing.shared_packed().clone() {
+            Ok(packed) => Ok(Crowding {
+                packed,
+                rows: self.strip.rows,
+                overused,
+                nodes,
+            }),
+            Err(error) => {
+                drop(nodes);
+                Err(error)
+            }
+        }
     }
 }

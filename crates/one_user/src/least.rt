@@ -64,7 +64,11 @@ pub fn least_tracks<T: Sink>(
         × Fails (fault_of (arch_of plan.entry.text.now tracks)) error) }
 {
     match place_with(alloc, plan, request)? {
-        PlacingEnd::Placed(placing) => least_for(alloc, plan, request, &placing, tries),
+        PlacingEnd::Placed(placing) => {
+            let least = least_for(alloc, plan, request, &placing, tries);
+            drop(placing);
+            least
+        }
         PlacingEnd::Refused(refusal) => {
             let _told = tell_try(tries, 1, "refused");
             Ok(Least::Refused(refused_run(refusal)))
@@ -160,7 +164,9 @@ fn try_with(
 {
     let arch = read_arch(alloc, plan.text, tracks)?;
     let device = OwnDevice::new(alloc, arch, plan.columns, plan.rows)?;
-    Ok(device.run_placed(placing)?)
+    let run = device.run_placed(placing);
+    drop(device);
+    Ok(run?)
 }
 
 /// Packs and places a netlist for all numbers of tracks, or returns why it is refused.
@@ -175,7 +181,9 @@ pub(crate) fn place_with(
 {
     let arch = read_arch(alloc, plan.text, 1)?;
     let device = OwnDevice::new(alloc, arch, plan.columns, plan.rows)?;
-    Ok(device.place(request)?)
+    let placed = device.place(request);
+    drop(device);
+    Ok(placed?)
 }
 
 /// Writes the line of a try with a number of tracks, with its end.
@@ -232,7 +240,9 @@ pub fn run_with<W: Sink>(
 {
     let arch = read_arch(alloc, plan.text, tracks)?;
     let device = OwnDevice::new(alloc, arch, plan.columns, plan.rows)?;
-    Ok(device.run(request, teller)?)
+    let run = device.run(request, teller);
+    drop(device);
+    Ok(run?)
 }
 
 /// Returns where the routing of a netlist with that number of tracks is overused after its last
@@ -251,5 +261,7 @@ pub fn crowding_with(
 {
     let arch = read_arch(alloc, plan.text, tracks)?;
     let device = OwnDevice::new(alloc, arch, plan.columns, plan.rows)?;
-    Ok(device.crowding(request)?)
+    let crowding = device.crowding(request);
+    drop(device);
+    Ok(crowding?)
 }

@@ -50,4 +50,3 @@ pub use least::{DevicePlan, Least, crowding_with, least_tracks, run_with};
 pub use outcome::{Files, FlowOutcome, Run, Unrouted};
 pub use pinned::{PinnedEnd, least_pinned, run_pinned};
 pub use table::write_figures;
-pub use telling::kind_word;

@@ -53,8 +53,9 @@ pub fn run_pinned(
 {
     match place_pinned(alloc, plan, request, pins)? {
         PinnedPlacing::Placed(placing) => {
-            let run = run_on(alloc, plan, tracks, request, pins, &placing)?;
-            Ok(PinnedEnd::Placed { tracks, run })
+            let run = run_on(alloc, plan, tracks, request, pins, &placing);
+            drop(placing);
+            Ok(PinnedEnd::Placed { tracks, run: run? })
         }
         PinnedPlacing::Refused(refusal) => Ok(PinnedEnd::Refused(refusal)),
         PinnedPlacing::NotPinned(fault) => Ok(PinnedEnd::NotPinned(fault)),
@@ -76,7 +77,9 @@ fn run_on(
     ensures { IfOk result (RunsWith plan.entry tracks placing.now) }
 {
     let device = device_with(alloc, plan, tracks, request, pins, placing)?;
-    Ok(device.run_whole(placing)?)
+    let run = device.run_whole(placing);
+    drop(device);
+    Ok(run?)
 }
 
 /// The device with that number of tracks, on which the blocks are placed.
@@ -110,7 +113,9 @@ fn place_pinned(
 {
     match place_with(alloc, plan, request)? {
         PlacingEnd::Placed(placing) => {
-            match pin_pads(alloc, &placing, pins) {
+            let pinned = pin_pads(alloc, &placing, pins);
+            drop(placing);
+            match pinned {
                 Ok(pinned) => Ok(PinnedPlacing::Placed(pinned)),
                 Err(TextError::Fault(fault)) => Ok(PinnedPlacing::NotPinned(fault)),
                 Err(TextError::NoMemory) => Err(ArchError::NoMemory),
@@ -136,7 +141,11 @@ pub fn least_pinned<T: Sink>(
     ensures { IfOk result (IsLeastPinned plan.entry request.entry (pins_read pins.now)) }
 {
     match place_pinned(alloc, plan, request, pins)? {
-        PinnedPlacing::Placed(placing) => least_on(alloc, plan, request, pins, &placing, tries),
+        PinnedPlacing::Placed(placing) => {
+            let least = least_on(alloc, plan, request, pins, &placing, tries);
+            drop(placing);
+            least
+        }
         PinnedPlacing::Refused(refusal) => {
             let _told = tell_try(tries, 1, "refused");
             Ok(PinnedEnd::Refused(refusal))
@@ -189,5 +198,7 @@ fn try_on(
     ensures { IfOk result (IsTryOn plan.entry placing.now tracks) }
 {
     let device = device_with(alloc, plan, tracks, request, pins, placing)?;
-    Ok(device.run_placed(placing)?)
+    let run = device.run_placed(placing);
+    drop(device);
+    Ok(run?)
 }

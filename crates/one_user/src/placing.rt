@@ -39,7 +39,11 @@ pub(crate) fn place_netlist(
 {
     let lut_size = arch.arch().lut_size;
     match circuit_in(alloc, request.netlist.as_bytes(), lut_size)? {
-        Ok(circuit) => place_circuit(alloc, arch, strip, request, &circuit),
+        Ok(circuit) => {
+            let placed = place_circuit(alloc, arch, strip, request, &circuit);
+            drop(circuit);
+            placed
+        }
         Err(fault) => Ok(PlacingEnd::Refused(Refusal::BadBlif(fault))),
     }
 }
@@ -59,7 +63,11 @@ fn place_circuit(
         request.entry.netlist.now request.entry.seed request.entry.effort)) }
 {
     match packed_from(alloc, circuit, arch)? {
-        Ok(packed) => place_packed(alloc, &packed, strip, request.seed, request.effort),
+        Ok(packed) => {
+            let placed = place_packed(alloc, &packed, strip, request.seed, request.effort);
+            drop(packed);
+            placed
+        }
         Err(ble) => Ok(PlacingEnd::Refused(Refusal::CannotPack(ble))),
     }
 }

@@ -30,7 +30,9 @@ pub(crate) fn last_iteration<G: StripGraph>(
         (nets_to_route (G.basis graph.now) placing.now.packed (places_by_block placing.now))) }
 {
     let places = placing.places(alloc)?;
-    last_among(alloc, graph, placing.packed(), places.as_slice())
+    let last = last_among(alloc, graph, placing.packed(), places.as_slice());
+    drop(places);
+    last
 }
 
 /// Makes all iterations of the routing of blocks at these places, and returns the last.

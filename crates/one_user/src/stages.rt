@@ -145,7 +145,9 @@ pub(crate) fn ask(slot: &mut Slot, command: Command) -> Result<Option<Refusal>, 
         refusal ≡ refusal_in (answer_to slot.old.state (Asked command)).1) }
     ensures slot { OnOk result (slot.new ≡ after_event slot.old (Asked command)) }
 {
-    match slot.command(&command) {
+    let reply = slot.command(&command);
+    drop(command);
+    match reply {
         Ok(Reply::Refused(refusal)) => Ok(Some(refusal)),
         Ok(_) => Ok(None),
         Err(NotAnswered::NoMemory) => Err(AllocError),
@@ -190,8 +192,14 @@ fn file_of(slot: &Slot, command: Command) -> Result<SharedText, AllocError>
     ensures { IfOk result (λ text. text_in (answer_to slot.now.state (Asked command)).1
         ≡ Some text) }
 {
-    match slot.answer(&command) {
-        Ok(answer) => text_in(answer.reply()),
+    let answer = slot.answer(&command);
+    drop(command);
+    match answer {
+        Ok(answer) => {
+            let text = text_in(answer.reply());
+            drop(answer);
+            text
+        }
         Err(NotAnswered::NoMemory) => Err(AllocError),
         Err(NotAnswered::JournalFull) => unreachable!(),
     }
@@ -215,8 +223,15 @@ fn ending_of(slot: &Slot) -> Result<Ending, AllocError>
     ensures { IfOk result (λ ending.
         ending_in (answer_to slot.now.state (Asked Command.Status)).1 ≡ Some ending) }
 {
-    match slot.answer(&Command::Status) {
-        Ok(answer) => ending_in(answer.reply()),
+    let command = Command::Status;
+    let answer = slot.answer(&command);
+    drop(command);
+    match answer {
+        Ok(answer) => {
+            let ending = ending_in(answer.reply());
+            drop(answer);
+            ending
+        }
         Err(NotAnswered::NoMemory) => Err(AllocError),
         Err(NotAnswered::JournalFull) => unreachable!(),
     }

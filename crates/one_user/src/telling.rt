@@ -1,8 +1,7 @@
 //! A line for each step.
 ghost use Rattle.std.specs.Prelude.{◌≡◌, ◌-◌};
 ghost use Rattle.one_user.specs.Prelude.{pass_count, Writes, temperature_at};
-ghost use Rattle.vpr_files.specs.NodeText.{kind_word};
-ghost use Rattle.one_user.specs.Lines.{cluster_line, iteration_line, most_line, overuse_line, packed_line, pass_line, step_line};
+ghost use Rattle.one_user.specs.Lines.{cluster_line, iteration_line, kind_word, most_line, overuse_line, packed_line, pass_line, step_line};
 
 use crate::passes::{pass_count, temperature_after};
 use crate::steps::StepMade;
@@ -177,7 +176,7 @@ fn tell_most<W: Sink>(sink: &mut W, number: u32, nodes: usize, most: Node) -> Re
 }
 
 /// The word of the route file for a kind of node.
-pub fn kind_word(kind: NodeKind) -> &'static str
+fn kind_word(kind: NodeKind) -> &'static str
     ensures { result.now ≡ kind_word kind }
 {
     match kind {

@@ -144,10 +144,13 @@ impl<'t> Operator<'t> {
         self.ids.reserve(1)?;
         self.admitted.reserve(1)?;
         let answer = core.admit(width);
-        if let Ok((id, _)) = &answer {
-            note(&mut self.ids, &mut self.admitted, name, *id);
+        match &answer {
+            Ok((id, _)) => {
+                note(&mut self.ids, &mut self.admitted, name, *id);
+                push_admitted(reply, &answer)
+            }
+            Err(_) => push_admitted(reply, &answer),
         }
-        push_admitted(reply, &answer)
     }
 
     /// Appends one line for each live tenancy, by id.

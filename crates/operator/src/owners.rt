@@ -21,6 +21,14 @@ pub fn push_owners(reply: &mut MemorySink, rows: u32, owners: &[Owned]) -> Resul
     let mut digits = Buffer::new();
     let count = digits.format(owners.len()).as_bytes();
     push_parts(reply, &[b"owners ", count, b"\n"])?;
+    push_each(reply, rows, owners)
+}
+
+/// Appends one line for each resource and its owner.
+fn push_each(reply: &mut MemorySink, rows: u32, owners: &[Owned]) -> Result<(), AllocError>
+    ensures { OnOk result (sink_text reply.new
+        ≡ sink_text reply.old ++ flat_map (owned_text rows) owners.now) }
+{
     for owned in owners {
         push_owned(reply, rows, *owned)?;
     }
@@ -76,5 +84,8 @@ fn push_node(
         (record { x = resource.x; kind = kind; y = resource.y; n = resource.n })) }
 {
     let Resource { x, y, n, .. } = resource;
-    write_node(Node { x, kind, y, n }, rows, reply).or(Err(AllocError))
+    match write_node(Node { x, kind, y, n }, rows, reply) {
+        Ok(()) => Ok(()),
+        Err(_) => Err(AllocError),
+    }
 }

@@ -144,7 +144,10 @@ pub(crate) fn push_parts(reply: &mut MemorySink, parts: &[&[u8]]) -> Result<(), 
     ensures { OnOk result (sink_text reply.new
         ≡ sink_text reply.old ++ flat_map (λ part. part.now) parts.now) }
 {
-    write_slices(reply, parts).or(Err(AllocError))
+    match write_slices(reply, parts) {
+        Ok(()) => Ok(()),
+        Err(_) => Err(AllocError),
+    }
 }
 
 /// Appends the line of a refusal.
@@ -152,5 +155,8 @@ pub fn push_refused(reply: &mut MemorySink, number: u32, name: &str) -> Result<(
     ensures { OnOk result (sink_text reply.new ≡ sink_text reply.old
         ++ refused_text number name.now) }
 {
-    write_refused(reply, number, name).or(Err(AllocError))
+    match write_refused(reply, number, name) {
+        Ok(()) => Ok(()),
+        Err(_) => Err(AllocError),
+    }
 }

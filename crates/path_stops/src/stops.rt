@@ -1,7 +1,7 @@
 //! The stops of a path.
 ghost use Rattle.std.specs.Prelude.{◌≡◌, ◌+◌, ◌≤◌, ◌++◌, IfOk, length};
 ghost use Rattle.path_stops.specs.Prelude.{has_net};
-ghost use Rattle.path_stops.specs.Stops.{latch_stop, latch_stops, net_at, net_of_table, stop_at, stops_of};
+ghost use Rattle.path_stops.specs.Stops.{driver_stops, latch_stop, latch_stops, net_at, net_of_table, output_stops, stop_at, stops_of};
 
 use crate::blocks::{block_named, driver_block, net_name, output_pad};
 use blif::{Circuit, Latch};
@@ -43,20 +43,29 @@ pub fn stops_of(
 ) -> Result<Vec<PathStop>, AllocError>
     ensures { IfOk result (λ stops. stops.items ≡ stops_of strip.now circuit.now path.now) }
 {
+    let mut stops = driver_stops(alloc, strip, circuit, path)?;
+    match add_ends(&mut stops, strip, circuit, path.to) {
+        Ok(()) => Ok(stops),
+        Err(error) => {
+            drop(stops);
+            Err(error)
+        }
+    }
+}
+
+/// The start and the tables of a path.
+fn driver_stops(
+    alloc: Global,
+    strip: &RoutedStrip<'_>,
+    circuit: &Circuit,
+    path: &LongestPath,
+) -> Result<Vec<PathStop>, AllocError>
+    ensures { IfOk result (λ stops. stops.items ≡ driver_stops strip.now circuit.now path.now) }
+{
     let mut stops = Vec::new(alloc);
     for place in 0..path.tables.len() + 1 {
         stops.push(stop_at(strip, circuit, path, place))?;
     }
-    let net = path.to;
-    if is_output(circuit, net) {
-        stops.push(PathStop {
-            kind: StopKind::End,
-            net,
-            block: output_pad(strip, net_name(circuit, net)),
-            before: Some(net),
-        })?;
-    }
-    add_latches(&mut stops, strip, circuit, net)?;
     Ok(stops)
 }
 
@@ -103,6 +112,28 @@ fn net_of_table(circuit: &Circuit, number: usize) -> u32
     } else {
         0
     }
+}
+
+/// Adds the ends of a path to that net.
+fn add_ends(
+    stops: &mut Vec<PathStop>,
+    strip: &RoutedStrip<'_>,
+    circuit: &Circuit,
+    net: u32,
+) -> Result<(), AllocError>
+    ensures { IfOk result (λ _. stops.new.items
+        ≡ (stops.old.items ++ output_stops strip.now circuit.now net)
+        ++ latch_stops strip.now circuit.now net) }
+{
+    if is_output(circuit, net) {
+        stops.push(PathStop {
+            kind: StopKind::End,
+            net,
+            block: output_pad(strip, net_name(circuit, net)),
+            before: Some(net),
+        })?;
+    }
+    add_latches(stops, strip, circuit, net)
 }
 
 /// Returns whether a net is an output.

@@ -8,7 +8,7 @@ use crate::advising::is_refusal;
 use crate::present::NameFiles;
 use crate::usage::{Usage, no_usage, with_act};
 use line_text::NameSet;
-use printed_replies::Replies;
+use printed_replies::{Answered, Replies};
 use script_text::{Act, OperatorLine};
 use std::alloc::{AllocError, Global};
 
@@ -30,24 +30,24 @@ pub fn accounts_of<'a, 'p>(
     ensures { IfOk result (λ accounts. map account_now accounts.items
         ≡ accounts_of (map named_act acts.now) replies.now) }
 {
-    let names = replies.names();
-    let lines = replies.lines();
-    let mut accounts = no_accounts(alloc, names)?;
-    for place in 0..acts.len().min(lines.len()) {
-        add_act(&mut accounts, names, &acts[place], lines[place].reply);
+    let mut accounts = Vec::new(alloc);
+    match add_empty(&mut accounts, replies.names()) {
+        Ok(()) => {
+            add_acts(&mut accounts, replies.names(), acts, replies.lines());
+            Ok(accounts)
+        }
+        Err(error) => {
+            drop(accounts);
+            Err(error)
+        }
     }
-    Ok(accounts)
 }
 
-/// The accounts of the names before the first act.
-fn no_accounts<'a, 'p>(
-    alloc: Global,
-    names: &NameSet<'a>,
-) -> Result<Vec<Account<'a, 'p>>, AllocError>
-    ensures { IfOk result (λ accounts.
-        map account_now accounts.items ≡ map no_account names.now) }
+/// Adds an account for each name to none, before the first act.
+fn add_empty<'a>(accounts: &mut Vec<Account<'a, '_>>, names: &NameSet<'a>) -> Result<(), AllocError>
+    requires { accounts.old.items ≡ [] }
+    ensures { OnOk result (map account_now accounts.new.items ≡ map no_account names.now) }
 {
-    let mut accounts = Vec::new(alloc);
     for number in 0..names.len() {
         accounts.push(Account {
             name: names.name(number),
@@ -55,7 +55,24 @@ fn no_accounts<'a, 'p>(
             files: NameFiles::no_files(),
         })?;
     }
-    Ok(accounts)
+    Ok(())
+}
+
+/// Enters all acts with their replies.
+fn add_acts<'a, 'p>(
+    accounts: &mut Vec<Account<'a, 'p>>,
+    names: &NameSet<'_>,
+    acts: &'a [Act<&'a [u8]>],
+    lines: &[Answered<'_, 'p>],
+)
+    requires names { names.now ≡ names_of (asked_in (map answered_line lines.now)) }
+    requires empty { map account_now accounts.old.items ≡ map no_account names.now }
+    ensures { map account_now accounts.new.items
+        ≡ accounts_of (map named_act acts.now) (map answered_line lines.now) }
+{
+    for place in 0..acts.len().min(lines.len()) {
+        add_act(accounts, names, &acts[place], lines[place].reply);
+    }
 }
 
 /// Enters an act with its reply.

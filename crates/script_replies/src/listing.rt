@@ -69,6 +69,22 @@ struct Listing<'n, 'a> {
 }
 
 impl<'n, 'a> Listing<'n, 'a> {
+    /// Adds all lines.
+    fn add_all(
+        &mut self,
+        lines: &[ScriptLine<'a>],
+        replies: &Replies<'n, 'a>,
+    ) -> Result<(), AllocError>
+        ensures { OnOk result (map line_reply self.new.told.items
+            ≡ map line_reply self.old.told.items ++ line_replies lines.now replies.now) }
+    {
+        let answers = replies.lines();
+        for place in 0..lines.len().min(answers.len()) {
+            self.add(lines[place], answers[place])?;
+        }
+        Ok(())
+    }
+
     /// Adds a line with its reply.
     fn add(&mut self, line: ScriptLine<'a>, answered: Answered<'n, 'a>) -> Result<(), AllocError>
         ensures { OnOk result (map line_reply self.new.told.items ≡
@@ -144,11 +160,16 @@ pub fn told_lines<'a>(
         told: Vec::new(alloc),
         refused: Vec::new(alloc),
     };
-    let answers = replies.lines();
-    for place in 0..lines.len().min(answers.len()) {
-        listing.add(lines[place], answers[place])?;
+    let added = listing.add_all(lines, replies);
+    let Listing { told, refused } = listing;
+    drop(refused);
+    match added {
+        Ok(()) => Ok(told),
+        Err(error) => {
+            drop(told);
+            Err(error)
+        }
     }
-    Ok(listing.told)
 }
 
 /// A line with its reply, explained.

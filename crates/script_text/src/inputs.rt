@@ -65,7 +65,13 @@ impl<'t> Sessions<'t> {
     pub(crate) fn into_said(self) -> Vec<SessionInput<'t>>
         ensures { result.items ≡ self.entry.said.items }
     {
-        self.said
+        let Sessions {
+            alloc: _,
+            names,
+            said,
+        } = self;
+        drop(names);
+        said
     }
 }
 

@@ -36,7 +36,8 @@ impl<'t> Script<'t> {
     pub fn into_acts(self) -> Vec<Act<&'t [u8]>>
         ensures { map named_act result.items ≡ self.entry }
     {
-        self.acts
+        let Script { acts } = self;
+        acts
     }
 }
 
@@ -123,5 +124,8 @@ impl<'t> Reader<'t> {
 fn push<'t>(acts: &mut Vec<Act<&'t [u8]>>, act: Act<&'t [u8]>) -> Result<(), AllocError>
     ensures { OnOk result (acts.new.items ≡ acts.old.items ++ act.entry ∷ []) }
 {
-    Ok(acts.push(act)?)
+    match acts.push(act) {
+        Ok(()) => Ok(()),
+        Err(failed) => Err(AllocError::from(failed)),
+    }
 }

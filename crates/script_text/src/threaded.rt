@@ -142,10 +142,18 @@ impl<'t> ThreadedReader<'t> {
     fn into_script(self) -> ThreadedScript<'t>
         ensures { parts_of result ≡ parts_read self.entry }
     {
+        let ThreadedReader {
+            words,
+            ahead,
+            sessions,
+            rest,
+            within: _,
+        } = self;
+        drop(words);
         ThreadedScript {
-            ahead: self.ahead,
-            sessions: self.sessions.into_said(),
-            rest: self.rest,
+            ahead,
+            sessions: sessions.into_said(),
+            rest,
         }
     }
 }

@@ -65,13 +65,17 @@ impl Drop for Service {
     fn drop(self) {
         let Service {
             alloc: _,
-            arch: _,
+            arch,
             rows: _,
-            layout: _,
-            tenancies: _,
-            book: _,
+            layout,
+            tenancies,
+            book,
             text_limit: _,
         } = self;
+        drop(arch);
+        drop(layout);
+        drop(tenancies);
+        drop(book);
     }
 }
 
@@ -209,7 +213,10 @@ impl Service {
         if self.tenancies.len() == MAX_ADMISSIONS {
             return Err(OpRefusal::IdsSpent);
         }
-        self.layout.first_fit(width).ok_or(OpRefusal::NoRoom)
+        match self.layout.first_fit(width) {
+            Some(offset) => Ok(offset),
+            None => Err(OpRefusal::NoRoom),
+        }
     }
 
     /// Ends a tenancy. Its strip is free again, and its journal stays. Refused if the tenancy isn't
@@ -319,9 +326,13 @@ impl Service {
             drop(done.park());
             return Ok(PutReply::Full);
         }
-        let reply = tenancy.put(done, origin)?;
-        claim(&mut self.book, id, offset, tenancy, reply);
-        Ok(PutReply::Recorded(reply))
+        match tenancy.put(done, origin) {
+            Ok(reply) => {
+                claim(&mut self.book, id, offset, tenancy, reply);
+                Ok(PutReply::Recorded(reply))
+            }
+            Err(back) => Err(back),
+        }
     }
 
     /// Takes back a job that wasn't stepped, or whose step couldn't be put. If it is the next step

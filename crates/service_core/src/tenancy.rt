@@ -170,28 +170,31 @@ impl Tenancy {
             unreachable!()
         };
         if self.journal.len() == MAX_ENTRIES as usize {
+            drop(command);
             return Err(NotAnswered::JournalFull);
         }
         let spare = self.text_limit - self.held;
         if spare < command_bytes(&command) || self.journal.reserve(1).is_err() {
+            drop(command);
             return Err(NotAnswered::NoMemory);
         }
         let journal = self.journal.as_slice();
-        let answer = slot.answer(&command)?;
-        let Recorded { reply, told, bytes } = prepare(
-            journal,
-            &self.last_texts,
-            spare,
-            &command,
-            answer.reply(),
-        )?;
-        give_up(book, offset, slot, &reply);
-        drop(slot.accept(answer));
-        self.last_texts.note(&reply, self.journal.len() as u32);
-        self.held += bytes;
-        let event = Event::Command(command);
-        self.journal.push(Entry { event, reply }).unwrap();
-        Ok(told)
+        match prepare_reply(slot, journal, &self.last_texts, spare, &command) {
+            Ok((answer, recorded)) => {
+                let Recorded { reply, told, bytes } = recorded;
+                give_up(book, offset, slot, &reply);
+                drop(slot.accept(answer));
+                self.last_texts.note(&reply, self.journal.len() as u32);
+                self.held += bytes;
+                let event = Event::Command(command);
+                self.journal.push(Entry { event, reply }).unwrap();
+                Ok(told)
+            }
+            Err(refusal) => {
+                drop(command);
+                Err(refusal)
+            }
+        }
     }
 
     /// Takes the next step of the running job out; `None` if it is out already.
@@ -274,6 +277,32 @@ struct Recorded {
     bytes: u64,
 }
 
+/// The answer to a command, and what is recorded of it, if its texts add at most `spare` bytes to
+/// those of the journal. Nothing changes yet.
+fn prepare_reply(
+    slot: &Slot,
+    journal: &[Entry],
+    last_texts: &LastTexts,
+    spare: u64,
+    command: &Command,
+) -> Result<(PreparedReply, Recorded), NotAnswered>
+    ensures answer { IfOk result (λ r. Answers slot.now command.now (Ok r.0)) }
+    ensures reply { IfOk result (λ r. r.1.reply ≡ r.0.reply) }
+    ensures told { IfOk result (λ r. (r.1.told.0 ≡ command.now) × (r.1.told.1 ≡ r.0.reply)) }
+    ensures within { IfOk result (λ r. r.1.bytes ≤ spare) }
+    ensures adds { IfOk result (λ r. Adds journal.now command.now r.0.reply r.1.bytes) }
+    ensures err { IfErr result (λ e. Answers slot.now command.now (Err e)) }
+{
+    let answer = slot.answer(command)?;
+    match prepare(journal, last_texts, spare, command, answer.reply()) {
+        Ok(recorded) => Ok((answer, recorded)),
+        Err(_) => {
+            drop(answer);
+            Err(NotAnswered::NoMemory)
+        }
+    }
+}
+
 /// What is recorded of a command and its reply. Fails if their texts add more than `spare` bytes to
 /// those of the journal, or if memory runs out.
 fn prepare(
@@ -291,12 +320,32 @@ fn prepare(
     let (kept, added) = kept_reply(journal, last_texts.index_for(reply), reply)?;
     let bytes = command_bytes(command) + added;
     if spare < bytes {
+        drop(kept);
         return Err(AllocError);
     }
-    let copy = kept.clone()?;
-    Ok(Recorded {
-        reply: kept,
-        told: (command.clone()?, copy),
-        bytes,
-    })
+    match copies_of(command, &kept) {
+        Ok(told) => Ok(Recorded {
+            reply: kept,
+            told,
+            bytes,
+        }),
+        Err(error) => {
+            drop(kept);
+            Err(error)
+        }
+    }
+}
+
+/// A copy of a command and of its reply.
+fn copies_of(command: &Command, reply: &Reply) -> Result<(Command, Reply), AllocError>
+    ensures { IfOk result (λ told. (told.0 ≡ command.now) × (told.1 ≡ reply.now)) }
+{
+    let reply = reply.clone()?;
+    match command.clone() {
+        Ok(command) => Ok((command, reply)),
+        Err(error) => {
+            drop(reply);
+            Err(error)
+        }
+    }
 }

@@ -110,7 +110,10 @@ fn go_on(alloc: Global, text: PendingText, line: &Line) -> (Within, LineOutcome)
             Ok(text) => (Within::Text(text), LineOutcome::Nothing),
             Err(_) => (Within::LostText, LineOutcome::Nothing),
         },
-        None => (Within::LostText, LineOutcome::Nothing),
+        None => {
+            drop(text);
+            (Within::LostText, LineOutcome::Nothing)
+        }
     }
 }
 

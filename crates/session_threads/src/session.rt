@@ -78,7 +78,10 @@ impl<C: Begun> Session<C> {
     {
         let mut session = self;
         session.push_ready(rt, shared, ready);
-        let Session { mut transcript, .. } = session;
+        let Session {
+            pass: _,
+            mut transcript,
+        } = session;
         transcript.finish(end);
         transcript
     }

@@ -62,8 +62,10 @@ impl PendingText {
         ensures { IfOk result (λ line. line ≡ text_item self.kind (Some self.bytes)) }
     {
         let PendingText { kind, bytes } = self;
-        let text = SharedText::new(alloc, Text::new(bytes))?;
-        Ok(SessionLine::Command(kind.command(text)))
+        match SharedText::new(alloc, Text::new(bytes)) {
+            Ok(text) => Ok(SessionLine::Command(kind.command(text))),
+            Err(_) => Err(AllocError),
+        }
     }
 }
 

@@ -51,14 +51,17 @@ impl SessionReader {
         ensures lost { OnErr result (IsSome self.old × (self.new ≡ None)) }
     {
         let line = without_cr(line);
-        let Some(text) = self.text.take() else {
-            return Ok(self.begin(line));
-        };
-        if is_point(line) {
-            return Ok(Some(text.into_line(self.alloc)?));
+        match self.text.take() {
+            Some(text) => {
+                if is_point(line) {
+                    Ok(Some(text.into_line(self.alloc)?))
+                } else {
+                    self.text = Some(text.with_line(line)?);
+                    Ok(None)
+                }
+            }
+            None => Ok(self.begin(line)),
         }
-        self.text = Some(text.with_line(line)?);
-        Ok(None)
     }
 
     /// Takes a line outside of texts, without its end.
@@ -79,8 +82,14 @@ impl SessionReader {
     pub fn finish(self) -> Option<SessionLine>
         ensures { item_and result [] ≡ items_to_come self [] }
     {
-        self.text?;
-        Some(SessionLine::Refused(SessionRefusal::UnfinishedUpload))
+        let SessionReader { alloc: _, text } = self;
+        match text {
+            Some(text) => {
+                drop(text);
+                Some(SessionLine::Refused(SessionRefusal::UnfinishedUpload))
+            }
+            None => None,
+        }
     }
 }
 

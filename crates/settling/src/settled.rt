@@ -49,7 +49,8 @@ impl Settled {
     pub fn into_service(self) -> Service
         ensures { result ≡ self.service }
     {
-        let Settled { service, marks: _ } = self;
+        let Settled { service, marks } = self;
+        drop(marks);
         service
     }
 }

@@ -80,6 +80,7 @@ impl LeaseMarks {
         ensures marked { MarksPlace self.old result self.new }
     {
         if self.places.reserve(1).is_err() {
+            drop(command);
             return Err(NotServed::NoMemory);
         }
         let receipt = service.tenant(id, command)?;

@@ -13,7 +13,8 @@ pub struct Shared<C: Begun, P: Ledger> {
 
 impl<C: Begun, P: Ledger> Drop for Shared<C, P> {
     fn drop(self) {
-        let Shared { core: _, changed: _ } = self;
+        let Shared { core, changed: _ } = self;
+        drop(core);
     }
 }
 

@@ -52,8 +52,8 @@ impl<C: Begun, P: Ledger> Drop for Core<C, P> {
     fn drop(self) {
         let Core {
             alloc: _,
-            service: _,
-            marks: _,
+            service,
+            marks,
             slots: _,
             commands: _,
             spare: _,
@@ -61,6 +61,7 @@ impl<C: Begun, P: Ledger> Drop for Core<C, P> {
             own: _,
             shares: _,
         } = self;
+        drop((service, marks));
     }
 }
 
@@ -81,7 +82,13 @@ impl<C: Begun, P: Ledger> Core<C, P> {
         ensures { IfOk result (λ core. IsWrapped (empty_service device) core) }
     {
         let service = Service::new(alloc, device)?;
-        Core::over(alloc, service, commands, puts).or(Err(AllocError))
+        match Core::over(alloc, service, commands, puts) {
+            Ok(core) => Ok(core),
+            Err((service, error)) => {
+                drop(service);
+                Err(error)
+            }
+        }
     }
 
     /// The core of a service. Nothing is marked, no lease and no share was given, and the put
@@ -101,8 +108,9 @@ impl<C: Begun, P: Ledger> Core<C, P> {
         ensures ok { IfOk result (λ core. IsWrapped service core) }
         ensures err { IfErr result (λ back. back.0 ≡ service) }
     {
-        let Ok(marks) = no_marks(alloc, &service) else {
-            return Err((service, AllocError));
+        let marks = match no_marks(alloc, &service) {
+            Ok(marks) => marks,
+            Err(error) => return Err((service, error)),
         };
         let _room = service.room_for(1);
         let slots = slots_of(&service);
@@ -236,8 +244,12 @@ impl<C: Begun, P: Ledger> Core<C, P> {
         ensures admitted { IsAdmitted self.old.service width result self.new.service }
         ensures rest { Admits self.old result self.new }
     {
-        self.service.room_for(width)?;
-        self.marks.reserve(1)?;
+        if let Err(refusal) = self.service.room_for(width) {
+            return Err(refusal);
+        }
+        if self.marks.reserve(1).is_err() {
+            return Err(OpRefusal::NoMemory);
+        }
         let (id, offset) = self.service.admit(width)?;
         self.marks.push(LeaseMarks::new(self.alloc)).unwrap();
         self.slots.hand(0, id);

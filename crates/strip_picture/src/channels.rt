@@ -4,7 +4,7 @@ ghost use Rattle.std.specs.List.{range_with_len};
 ghost use Rattle.arch_file.specs.declared.arch.TheConstants.{MAX_TRACKS};
 ghost use Rattle.grid.specs.declared.TheConstants.{MAX_COLUMNS, MAX_ROWS};
 ghost use Rattle.strip_files.specs.declared.route_node.RouteNode.{RouteNode};
-ghost use Rattle.strip_picture.specs.Channels.{HasTracks, IsNoWire, IsWireOf, across_uses, channel_number, up_uses, use_of};
+ghost use Rattle.strip_picture.specs.Channels.{HasTracks, IsNoWire, IsWireOf, across_uses, channel_number, tracks_in, up_uses, use_of};
 
 use arch_file::MAX_TRACKS;
 use grid::MAX_ROWS;
@@ -120,6 +120,17 @@ fn channel_number(direction: Direction, x: u32, y: u32) -> usize
     }
 }
 
+/// The number of used tracks of a channel.
+fn tracks_in(used: &[u64], direction: Direction, x: u32, y: u32) -> usize
+    requires used { length used.now ≡ CHANNELS }
+    requires column { x ≤ MAX_COLUMNS }
+    requires row { y ≤ MAX_ROWS }
+    ensures { (nodes : List RouteNode) → HasTracks nodes used.now →
+        result ≡ tracks_in direction x y nodes }
+{
+    bits_set(used[channel_number(direction, x, y)], MAX_TRACKS)
+}
+
 /// A channel with the number of its used tracks.
 fn use_of(used: &[u64], direction: Direction, x: u32, y: u32) -> ChannelTracks
     requires used { length used.now ≡ CHANNELS }
@@ -128,7 +139,7 @@ fn use_of(used: &[u64], direction: Direction, x: u32, y: u32) -> ChannelTracks
     ensures { (nodes : List RouteNode) → HasTracks nodes used.now →
         result ≡ use_of nodes direction x y }
 {
-    let tracks = bits_set(used[channel_number(direction, x, y)], MAX_TRACKS);
+    let tracks = tracks_in(used, direction, x, y);
     ChannelTracks {
         direction,
         x,

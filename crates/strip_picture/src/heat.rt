@@ -3,7 +3,7 @@
 ghost use Rattle.std.specs.Prelude.{◌≡◌, ◌≤◌};
 ghost use Rattle.std.specs.List.{flat_map};
 ghost use Rattle.line_text.specs.Writing.{Writes};
-ghost use Rattle.strip_picture.specs.Numbers.{goes_across, goes_up, middle, number_text};
+ghost use Rattle.strip_picture.specs.Numbers.{goes_across, goes_up, middle, number_text, text_at};
 
 use crate::channels::{ChannelTracks, Channels};
 use crate::frame::Frame;
@@ -121,6 +121,13 @@ pub fn write_number<K: Sink>(
 {
     let x = middle(lattice, channel.x, goes_up(channel.direction));
     let y = middle(lattice, channel.y, goes_across(channel.direction));
+    write_at(sink, x, y, channel.tracks as u64)
+}
+
+/// Writes a number at a point.
+fn write_at<K: Sink>(sink: &mut K, x: u64, y: u64, number: u64) -> Result<(), Failed>
+    ensures { Writes K.contents K.has_failed sink.old sink.new (text_at x y number) result }
+{
     write_parts(
         sink,
         &[
@@ -129,7 +136,7 @@ pub fn write_number<K: Sink>(
             Part::Text("\" y=\"-"),
             Part::Long(y),
             Part::Text("\" dy=\".35em\">"),
-            Part::Long(channel.tracks as u64),
+            Part::Long(number),
             Part::Text("</text>\n"),
         ],
     )

@@ -88,10 +88,14 @@ impl PreparedReply {
                 reply: Reply::Accepted(StateName::Loaded),
             }),
             Err(BlifError::Fault(fault)) => {
+                drop(kept);
                 let reply = Reply::Refused(Refusal::BadBlif(fault));
                 Ok(PreparedReply::without_change(lut_size, reply))
             }
-            Err(BlifError::NoMemory) => Err(NotAnswered::NoMemory),
+            Err(BlifError::NoMemory) => {
+                drop(kept);
+                Err(NotAnswered::NoMemory)
+            }
         }
     }
 

@@ -1,5 +1,5 @@
 //! Jobs that begin.
-ghost use Rattle.std.specs.Prelude.{◌≡◌, IfOk, false};
+ghost use Rattle.std.specs.Prelude.{◌≡◌, Err, IfOk, MatchResult, Ok, Some, false};
 ghost use Rattle.tenant_slot.specs.Prelude.{CanPack, CanPlace, is_last, packing_sources, placing_sources, routing_sources};
 ghost use Rattle.tenant_slot.specs.Content.{IsMadeOf};
 ghost use Rattle.tenant_slot.specs.Outcomes.{job_begun};
@@ -35,13 +35,13 @@ impl Beginning<'_> {
         ensures going { IfOk result (λ job. is_last job.sources 0 ≡ false) }
     {
         let sources = Sources::packing(self.arch, self.strip, &self.netlist.text)?;
-        let copy = sources.clone()?;
+        let Ok(copy) = sources.clone() else {
+            drop(sources);
+            return Err(AllocError);
+        };
         let circuit = &self.netlist.circuit;
-        let first = Parked::pack(self.alloc, self.id, self.generation, copy, circuit)?;
-        Ok(Running {
-            sources,
-            ready: Some(first),
-        })
+        let first = Parked::pack(self.alloc, self.id, self.generation, copy, circuit);
+        running_job(sources, first)
     }
 
     /// Starts the placing of what the finished packing has made, on a strip that has enough places.
@@ -61,12 +61,12 @@ impl Beginning<'_> {
     {
         let text = &self.netlist.text;
         let sources = Sources::placing(self.arch, self.strip, text, self.kept, seed, effort)?;
-        let copy = sources.clone()?;
-        let first = Parked::place(self.alloc, self.id, self.generation, copy, packing)?;
-        Ok(Running {
-            sources,
-            ready: Some(first),
-        })
+        let Ok(copy) = sources.clone() else {
+            drop(sources);
+            return Err(AllocError);
+        };
+        let first = Parked::place(self.alloc, self.id, self.generation, copy, packing);
+        running_job(sources, first)
     }
 
     /// Starts the routing of what the finished placing of that seed and effort has made.
@@ -86,11 +86,29 @@ impl Beginning<'_> {
     {
         let text = &self.netlist.text;
         let sources = Sources::routing(self.arch, self.strip, text, self.kept, seed, effort)?;
-        let copy = sources.clone()?;
-        let first = Parked::route(self.alloc, self.id, self.generation, copy, placing)?;
-        Ok(Running {
+        let Ok(copy) = sources.clone() else {
+            drop(sources);
+            return Err(AllocError);
+        };
+        let first = Parked::route(self.alloc, self.id, self.generation, copy, placing);
+        running_job(sources, first)
+    }
+}
+
+/// The running job of these sources, before its first step.
+fn running_job(sources: Sources, first: Result<Parked, AllocError>) -> Result<Running, AllocError>
+    ensures { MatchResult first
+        (λ ready. result ≡ Ok (record { sources = sources; ready = Some ready }))
+        (λ error. result ≡ Err error) }
+{
+    match first {
+        Ok(ready) => Ok(Running {
             sources,
-            ready: Some(first),
-        })
+            ready: Some(ready),
+        }),
+        Err(error) => {
+            drop(sources);
+            Err(error)
+        }
     }
 }

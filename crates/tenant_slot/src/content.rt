@@ -104,9 +104,19 @@ impl Content {
         ensures { result ≡ cut_back self }
     {
         match self {
-            Content::Placed(netlist, packing, _)
-            | Content::Routed(netlist, packing, _, _)
-            | Content::Unrouted(netlist, packing, _, _) => Content::Packed(netlist, packing),
+            Content::Placed(netlist, packing, placing) => {
+                drop(placing);
+                Content::Packed(netlist, packing)
+            }
+            Content::Routed(netlist, packing, placing, routing) => {
+                drop(placing);
+                drop(routing);
+                Content::Packed(netlist, packing)
+            }
+            Content::Unrouted(netlist, packing, placing, _) => {
+                drop(placing);
+                Content::Packed(netlist, packing)
+            }
             content => content,
         }
     }
@@ -135,7 +145,10 @@ fn routed_with(netlist: Netlist, packing: Parked, placing: Parked, routing: Park
 {
     match failure_of(&routing) {
         None => Content::Routed(netlist, packing, placing, routing),
-        Some(failure) => Content::Unrouted(netlist, packing, placing, failure),
+        Some(failure) => {
+            drop(routing);
+            Content::Unrouted(netlist, packing, placing, failure)
+        }
     }
 }
 

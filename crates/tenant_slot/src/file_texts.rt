@@ -15,7 +15,9 @@ pub fn net_file(alloc: Global, packed: &Packed) -> Result<SharedText, AllocError
     ensures { IfOk result (λ text. text ≡ net_text_of packed.now) }
 {
     let mut sink = MemorySink::new(alloc);
-    net_text(packed, &mut sink).or(Err(AllocError))?;
+    if net_text(packed, &mut sink).is_err() {
+        return Err(AllocError);
+    }
     share(alloc, sink)
 }
 
@@ -25,7 +27,9 @@ pub fn place_file(alloc: Global, placing: &Placing) -> Result<SharedText, AllocE
         ≡ place_text_of placing.now.strip placing.now.packed (places_by_block placing.now)) }
 {
     let mut sink = MemorySink::new(alloc);
-    place_text(placing, &mut sink).or(Err(AllocError))?;
+    if place_text(placing, &mut sink).is_err() {
+        return Err(AllocError);
+    }
     share(alloc, sink)
 }
 
@@ -41,7 +45,9 @@ pub fn route_file(
         routes.now) }
 {
     let mut sink = MemorySink::new(alloc);
-    route_text(placing, routes, &mut sink).or(Err(AllocError))?;
+    if route_text(placing, routes, &mut sink).is_err() {
+        return Err(AllocError);
+    }
     share(alloc, sink)
 }
 
@@ -50,5 +56,11 @@ fn share(alloc: Global, sink: MemorySink) -> Result<SharedText, AllocError>
     ensures { (bytes : List ℕ) → ⟦<MemorySink as Sink>⟧.contents sink ≡ Some bytes →
         IfOk result (λ text. text ≡ bytes) }
 {
-    Ok(SharedText::new(alloc, Text::new(sink.into_bytes()))?)
+    match SharedText::new(alloc, Text::new(sink.into_bytes())) {
+        Ok(text) => Ok(text),
+        Err(failed) => {
+            drop(failed);
+            Err(AllocError)
+        }
+    }
 }

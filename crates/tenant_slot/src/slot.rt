@@ -54,11 +54,13 @@ impl Drop for Slot {
         let Slot {
             alloc: _,
             id: _,
-            arch: _,
+            arch,
             strip: _,
-            standing: _,
+            standing,
             entries: _,
         } = self;
+        drop(arch);
+        drop(standing);
     }
 }
 

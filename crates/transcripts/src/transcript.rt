@@ -37,10 +37,11 @@ impl<C: Begun> Drop for Transcript<C> {
     fn drop(self) {
         let Transcript {
             lease: _,
-            items: _,
+            items,
             no_memory: _,
             end: _,
         } = self;
+        drop(items);
     }
 }
 
@@ -141,6 +142,7 @@ impl<C: Begun> Transcript<C> {
         ensures { Enters self.old core.old command result core.new self.new }
     {
         if self.items.reserve(1).is_err() {
+            drop(command);
             self.count_no_memory();
             return false;
         }

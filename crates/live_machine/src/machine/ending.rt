@@ -20,8 +20,8 @@ impl Machine<'_> {
         ensures server { self.new.server ≡ self.old.server }
         ensures held { self.new.held ≡ self.old.held }
     {
-        for place in 0..self.server.lines.live().service().admissions() {
-            if self.server.lines.live().service().has_step(place + 1) {
+        for place in 0..self.server.lines().live().service().admissions() {
+            if self.server.lines().live().service().has_step(place + 1) {
                 self.agenda.mark(place + 1)?;
             }
         }
@@ -32,14 +32,14 @@ impl Machine<'_> {
     pub fn to_keep(&self) -> usize
         ensures { result ≡ length (machine_of self.now).log }
     {
-        self.server.log.len()
+        self.server.to_keep()
     }
 
     /// The number of bytes that are to be told.
     pub fn to_tell(&self) -> usize
         ensures { result ≡ length (machine_of self.now).told }
     {
-        self.server.told.len()
+        self.server.to_tell()
     }
 
     /// How many tenancies may have a step to take.
@@ -70,9 +70,11 @@ impl Machine<'_> {
             alloc,
             server,
             held,
-            agenda: _,
+            agenda,
         } = self;
-        match lost_of(alloc, &held) {
+        let lost = lost_of(alloc, &held);
+        drop((held, agenda));
+        match lost {
             Ok(lost) => server.end(lost),
             Err(error) => {
                 server.close();
@@ -86,9 +88,10 @@ impl Machine<'_> {
         let Machine {
             alloc: _,
             server,
-            held: _,
-            agenda: _,
+            held,
+            agenda,
         } = self;
+        drop((held, agenda));
         server.close();
     }
 }

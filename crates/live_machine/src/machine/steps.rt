@@ -67,7 +67,7 @@ impl Machine<'_> {
             IfOk result (λ end. end ≢ Dropped) }
     {
         let id = done.id();
-        match self.server.lines.live().names().name_of(id) {
+        match self.server.lines().live().names().name_of(id) {
             Some(name) => self.put_of(id, name, done),
             None => {
                 self.server.give_back(done.into_back());
@@ -142,7 +142,7 @@ impl Machine<'_> {
     {
         let id = back.id();
         self.server.give_back(back);
-        match self.server.lines.live().names().name_of(id) {
+        match self.server.lines().live().names().name_of(id) {
             Some(name) => self.give_back_of(id, name),
             None => Ok(StepEnd::Dropped),
         }
@@ -227,7 +227,7 @@ impl Machine<'_> {
             (machine_of self.new)) }
     {
         let mut served = 0;
-        while served < MOST_ITEMS && self.to_tell() <= MOST_TOLD {
+        while served < MOST_ITEMS && self.server.to_tell() <= MOST_TOLD {
             if !self.serve_first(name)? {
                 return Ok(false);
             }
@@ -247,7 +247,7 @@ impl Machine<'_> {
         ensures turns { IfOk result (λ went. TakesTurn went (machine_of self.old)
             (machine_of self.new)) }
     {
-        if self.to_tell() > MOST_TOLD {
+        if self.server.to_tell() > MOST_TOLD {
             return Ok(false);
         }
         match self.next_free()? {

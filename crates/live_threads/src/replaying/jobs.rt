@@ -2,7 +2,7 @@
 ghost use Rattle.std.specs.Prelude.{◌≡◌, true, OnOk};
 ghost use Rattle.live_threads.specs.Prelude.{is_ready, state_in, IsHome, without_workers};
 
-use crate::letters::{Order, StepLetter};
+use crate::letters::{Order, StepLetter, StepOrder};
 use crate::replaying::Replayed;
 use live_machine::{is_home, workers_law};
 use std::alloc::{AllocError, AllocGlobal};
@@ -24,9 +24,9 @@ impl<R: Wait + AllocGlobal> Replayed<'_, R> {
             return Ok(());
         };
         let offset = self.lines.live().service().offset(id);
-        let order = Order::Make(job, offset);
+        let order = StepOrder::new(job, offset);
         self.out.push(id)?;
-        self.site.crew.order(self.site.rt, order)
+        self.site.crew.order(self.site.rt, Order::Make(order))
     }
 
     /// Waits until no worker has the next step of that name's job. A job that the operator holds is
@@ -104,8 +104,10 @@ impl<R: Wait + AllocGlobal> Replayed<'_, R> {
         ensures taken { self.new.taken ≡ self.old.taken }
     {
         workers_law();
-        let Some(back) = letter.into_back() else {
-            return;
+        let back = match letter {
+            StepLetter::Made(made) => made.into_done().into_back(),
+            StepLetter::NoMemory(job) => job.into_back(),
+            StepLetter::Paused(_) => return,
         };
         let id = back.id();
         self.lines.give_back(back);

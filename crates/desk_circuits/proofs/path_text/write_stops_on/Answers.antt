@@ -7,4 +7,4 @@ returns-in-Ok g c =
     let circuit = c.args.circuit.now in
     let stops = c.deref.result.now in
     let are = subst (λ ss. AreStops strip circuit c.args.path.now ss) (sym c.deref.ensures.value) c.in-Ok.ensures in
-    (flat_map (stop_text strip circuit) stops, inr (stops, are, refl), c.write_stops.ensures)
+    (flat_map (stop_text strip circuit) stops, inr (stops, are, refl), c.write_stops-written.ensures)

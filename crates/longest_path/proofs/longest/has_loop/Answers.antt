@@ -17,10 +17,10 @@ returns-in-Some c =
     let count : length c.loop-net.starts.items ≡ c.loop-net.net = c.loop-net.invariant.count in
     let all : c.loop-net.net ≡ nets = omega arith in
     let same : nets ≡ length c.args.circuit.now.nets = c.len-nets.ensures in
-    let settled : IsSettled nets c.args.circuit.now.tables starts c.in-Some._reach.items =
-    MatchOption-at_some (HasLoop c.args.circuit.now.tables) (λ reach. IsSettled nets c.args.circuit.now.tables starts reach.items) c.in-Some._reach c.in-Some.is c.in_ok-found.ensures in (
+    let settled : IsSettled nets c.args.circuit.now.tables starts c.in-Some.reach.items =
+    MatchOption-at_some (HasLoop c.args.circuit.now.tables) (λ reach. IsSettled nets c.args.circuit.now.tables starts reach.items) c.in-Some.reach c.in-Some.is c.in_ok-found.ensures in (
       λ h. absurd (grind arith),
-      λ loop. absurd (no_loop nets c.args.circuit.now.tables starts c.in-Some._reach.items
+      λ loop. absurd (no_loop nets c.args.circuit.now.tables starts c.in-Some.reach.items
           (subst (λ n. All (IsTableWithin n) c.args.circuit.now.tables) (sym same) c.requires.tables)
           (ap length c.deref.ensures.value ∙ (count ∙ all))
           (λ k within. subst (λ (nets : List ℕ). get_or nets k 0 ≡ k) (sym c.deref.ensures.value) (c.loop-net.invariant.each k (omega arith)))

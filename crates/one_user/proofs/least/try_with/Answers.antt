@@ -8,5 +8,5 @@ run_placed-run-requires c =
 
 pub returns-clause-tried : goal.returns-clause-tried
 returns-clause-tried c =
-    is_try c.args.plan c.args.request c.args.tracks c.in_ok-arch.arch c.in_ok-arch.ensures.gives c.args.placing.now c.requires.placed c.in_ok-run_placed.field-0
-    (subst (λ (b : Basis). IsRunOn b c.args.placing.now c.in_ok-run_placed.field-0) c.in_ok-device.ensures c.in_ok-run_placed.ensures)
+    is_try c.args.plan c.args.request c.args.tracks c.in_ok-arch.arch c.in_ok-arch.ensures.gives c.args.placing.now c.requires.placed c.in_ok-run.field-0
+    (subst (λ (b : Basis). IsRunOn b c.args.placing.now c.in_ok-run.field-0) c.in_ok-device.ensures c.in_ok-run.ensures)

@@ -8,6 +8,6 @@ run_by-run-requires c =
 
 pub returns-in-Done : goal.returns-in-Done
 returns-in-Done c =
-    routed_whole c.args.self.now c.args.placing.now c.in-Done.routes c.in_ok-end.field-0.number c.run_by.result
+    routed_whole c.args.self.now c.args.placing.now c.in-Done.routes c.in_ok-end.field-0.number c.run_by-run.result
     (subst (λ (e : IterEnd). IsLastIteration c.args.self.now (nets_on_device c.args.self.now c.args.placing.now) (record { end = e; number = c.in_ok-end.field-0.number })) c.in-Done.is c.in_ok-end.ensures)
-    c.run_by.ensures
+    c.run_by-run.ensures
